@@ -9,19 +9,19 @@ import sys
 
 sys.dont_write_bytecode = True
 import tool_modules  # noqa: E402,F401
-from image_facts import ABIS, LONGEST_NAME  # noqa: E402
+from image_facts import ABIS, DT_NEEDED, DT_RPATH, DT_RUNPATH, DT_SONAME, ET_DYN  # noqa: E402
 from image_facts import AUX_MAGIC as MAGIC  # noqa: E402
+from image_facts import OLD_AUX_MAGIC as OLD_MAGIC  # noqa: E402
+from mtree_model import is_name  # noqa: E402
 
-AUX = "var/cache/ldconfig/aux-cache"
-OLD_MAGIC = b"glibc-ld.so.auxcache-1.0"
 HEADER, RECORD = len(MAGIC) + 8, 48
 ABI_OF = {row.flags: abi for abi, row in ABIS.items()}
 
 # Each defect by its number, with the values that it may have; None if it has no value.
 DEFECTS = [
     ("NotElf", None), ("TooShort", set(range(64))), ("BadClass", set(range(256)) - {1, 2}), ("BadData", set(range(256)) - {1}),
-    ("BadMachine", range(65536)), ("NotShared", set(range(65536)) - {3}), ("BadPhdrs", None), ("NoDynamic", None), ("DynOutside", None),
-    ("NoStrtab", None), ("OutsideLoad", None), ("BadString", {1, 14, 15, 29}), ("BadSoname", None),
+    ("BadMachine", range(65536)), ("NotShared", set(range(65536)) - {ET_DYN}), ("BadPhdrs", None), ("NoDynamic", None), ("DynOutside", None),
+    ("NoStrtab", None), ("OutsideLoad", None), ("BadString", {DT_NEEDED, DT_SONAME, DT_RPATH, DT_RUNPATH}), ("BadSoname", None),
 ]  # fmt: skip
 
 
@@ -31,14 +31,6 @@ class Damaged(Exception):
     def __init__(self, at):
         super().__init__(at)
         self.at = at
-
-
-def is_name(text):
-    try:
-        text.decode()
-    except UnicodeDecodeError:
-        return False
-    return 1 <= len(text) <= LONGEST_NAME and b"/" not in text and text not in (b".", b"..")
 
 
 def record_at(aux, index):
@@ -97,7 +89,7 @@ def loaded(aux):
 
 def text(stamps):
     """The file of these cached records."""
-    offsets, strings, records = {None: 0}, b"\0", b""
+    offsets, strings, records = {None: 0}, b"\0", bytearray()
     for (device, inode, ctime, size), what in sorted(stamps.items(), key=lambda stamp: stamp[0]):
         if isinstance(what, str):
             name, _, value = what.partition(" ")

@@ -2,6 +2,9 @@
 
 import struct
 
+import tool_modules  # noqa: F401
+from image_facts import AUX_MAGIC, CACHE_MAGIC, EXTENSION_MAGIC, OLD_AUX_MAGIC
+
 # The most bytes of one file that a change makes.
 MOST = 2**20
 NUMBERS = (0, 1, 2, 7, 8, 0x7F, 0x80, 0xFF, 0x100, 0x1000, 0x7FFF, 0xFFFF, 0x10000, 2**20, 2**24, 2**31 - 1, 2**31, 2**32 - 1, 2**32, 2**63 - 1, 2**63, 2**64 - 1)
@@ -17,8 +20,8 @@ WORDS = {
     ],
     "script": [b"put ", b"drop ", b"update\n", b"put ./usr/lib/libz.so.1.2 type=file\n", b"drop ./usr/lib/libz.so.1.2\n", b"drop ./usr\n", b"#", b"\\", b"\n", b"./x type=dir\n", b"link=../.."],
     "library": [b"$ORIGIN", b"${ORIGIN}", b"$LIB", b"${PLATFORM}", b":", b"/", b"..", b"\0", b"libz.so.1\0", b"lib" + b"9" * 10 + b".so.1\0", b"\x7fELF"],
-    "cache": [b"glibc-ld.so.cache1.1", b"ld.so-1.7.0", b"\0", b"libz.so.1\0", b"/usr/lib/libz.so.1\0", struct.pack("<I", 0xEAA42174)],
-    "aux": [b"glibc-ld.so.auxcache-1.0", b"\0", b"libz.so.1\0"],
+    "cache": [CACHE_MAGIC, b"ld.so-1.7.0", b"\0", b"libz.so.1\0", b"/usr/lib/libz.so.1\0", struct.pack("<I", EXTENSION_MAGIC)],
+    "aux": [AUX_MAGIC, OLD_AUX_MAGIC, b"\0", b"libz.so.1\0"],
     "name": [b"..", b".", b"\n", b"\033[2J", b" ", b"\\", b"*", b"\xff", b"\xc3\xa9", b"9" * 10, b"x" * 200, b".so", b"lib", b".#prelink#", b";", b":"],
 }  # fmt: skip
 # Texts, whose lines are changed too.

@@ -4,12 +4,10 @@ import os
 import struct
 from collections import namedtuple
 
-from image_facts import abi_in
+from image_facts import DT_NULL, DT_SONAME, DT_STRSZ, DT_STRTAB, ET_DYN, PT_DYNAMIC, PT_LOAD, abi_in
 
 # The first part of each file, which is always taken.
 BEGIN = 4096
-ET_DYN = 3
-PT_LOAD, PT_DYNAMIC, DT_STRTAB, DT_STRSZ, DT_SONAME = 1, 2, 5, 10, 14
 # The longest soname that is read.
 LONGEST_SONAME = 4096
 # A file with more candidates for its string table is taken whole.
@@ -75,7 +73,7 @@ def library_of(opened):
         at, length = next((at, length) for kind, at, _, length in segments if kind == PT_DYNAMIC)
         dynamic = {}
         for tag, value in entries_of(opened, at, length, layout[3]):
-            if tag == 0:
+            if tag == DT_NULL:
                 break
             dynamic.setdefault(tag, value)
         if DT_SONAME not in dynamic:

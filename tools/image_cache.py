@@ -26,6 +26,11 @@ def text_at(cache, offset):
     return cache[offset:end]
 
 
+def strings_length(cache):
+    """The number of bytes of the strings."""
+    return struct.unpack_from("<I", cache, 24)[0]
+
+
 def section_of(cache, wanted):
     """The offset and the size of the first section with this tag; an empty one if there is none."""
     at = struct.unpack_from("<I", cache, 32)[0]

@@ -1,4 +1,5 @@
-"""What docs/FORMATS.md fixes, for all scripts: ABIs, limits, default directories, the lines of a report, which names are library names, and for which the loader can search.
+"""What docs/FORMATS.md fixes, for all scripts: ABIs, numbers of ELF, paths, limits, default directories, the lines of a report, which names are
+library names, and for which the loader can search. `scripts/contracts` compares it with the sources of the program.
 
 It is written from that page and shares nothing with the program.
 """
@@ -8,20 +9,27 @@ import re
 from collections import namedtuple
 
 # An ABI in ELF files (e_machine, the class: 1 for 32 bits, 2 for 64, and the value that the bits of a mask have in e_flags), in caches
-# (flags), and in what `ldconfig -p` prints (words).
-Abi = namedtuple("Abi", "machine width mask bits flags words")
+# (flags), in what `ldconfig -p` prints (words), and in Debian's directories (the triplet).
+Abi = namedtuple("Abi", "machine width mask bits flags words triplet")
 ABIS = {
-    "i386": Abi(3, 1, 0, 0, 0x0003, "libc6"),
-    "x86-64": Abi(62, 2, 0, 0, 0x0303, "libc6,x86-64"),
-    "x32": Abi(62, 1, 0, 0, 0x0803, "libc6,x32"),
-    "aarch64": Abi(183, 2, 0, 0, 0x0A03, "libc6,AArch64"),
-    "arm-hf": Abi(40, 1, 0x400, 0x400, 0x0903, "libc6,hard-float"),
-    "riscv64-d": Abi(243, 2, 0x6, 0x4, 0x1003, "libc6,double-float"),
+    "i386": Abi(3, 1, 0, 0, 0x0003, "libc6", "i386-linux-gnu"),
+    "x86-64": Abi(62, 2, 0, 0, 0x0303, "libc6,x86-64", "x86_64-linux-gnu"),
+    "x32": Abi(62, 1, 0, 0, 0x0803, "libc6,x32", "x86_64-linux-gnux32"),
+    "aarch64": Abi(183, 2, 0, 0, 0x0A03, "libc6,AArch64", "aarch64-linux-gnu"),
+    "arm-hf": Abi(40, 1, 0x400, 0x400, 0x0903, "libc6,hard-float", "arm-linux-gnueabihf"),
+    "riscv64-d": Abi(243, 2, 0x6, 0x4, 0x1003, "libc6,double-float", "riscv64-linux-gnu"),
 }
 # The offset of e_flags in a file header, by the class.
 EFLAGS_AT = {1: 36, 2: 48}
+# Types of files and of segments, and tags of a dynamic section (gABI).
+ET_EXEC, ET_DYN = 2, 3
+PT_LOAD, PT_DYNAMIC = 1, 2
+DT_NULL, DT_NEEDED, DT_STRTAB, DT_STRSZ, DT_SONAME, DT_RPATH, DT_RUNPATH = 0, 1, 5, 10, 14, 15, 29
 
-CACHE_MAGIC, AUX_MAGIC = b"glibc-ld.so.cache1.1", b"glibc-ld.so.auxcache-1.1"
+# The files of an image, below its directory.
+MANIFEST, CACHE, AUX, CONF = "image.mtree", "etc/ld.so.cache", "var/cache/ldconfig/aux-cache", "etc/ld.so.conf"
+
+CACHE_MAGIC, AUX_MAGIC, OLD_AUX_MAGIC = b"glibc-ld.so.cache1.1", b"glibc-ld.so.auxcache-1.1", b"glibc-ld.so.auxcache-1.0"
 EXTENSION_MAGIC = 0xEAA42174
 GENERATOR = b"ldconfig (image profile) release version 1"
 
@@ -32,11 +40,13 @@ LONGEST_MANIFEST = 2**26
 LARGEST_CONF = 2**20
 # Numbers: nodes of a manifest, entries of a cache, links that are followed for one path, conf files that include one another.
 MOST_NODES = 2**20
-MOST_ENTRIES = 131072
+MOST_ENTRIES = 262144
 MOST_LINKS = 40
 MOST_DEPTH = 16
-# The most bytes of a cache that is read: its entries, each with two texts as long as a path, and what else it has.
-LONGEST_CACHE = MOST_ENTRIES * (24 + 2 * (LONGEST_PATH + 1)) + 2**16
+# All strings of a cache have fewer bytes than this.
+MOST_STRINGS = 3 << 29
+# The most bytes of a cache that is read: its entries of 24 bytes, its strings, and 64 KiB for what else it has.
+LONGEST_CACHE = MOST_ENTRIES * 24 + MOST_STRINGS + 2**16
 
 SYSTEM_DIRS = ["/lib", "/usr/lib", "/lib64", "/usr/lib64"]
 # RISC-V's loader has these too, and so has `-r`.

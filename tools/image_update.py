@@ -21,6 +21,7 @@ from pathlib import Path
 sys.dont_write_bytecode = True
 import mtree_model  # noqa: E402
 from elf_parts import looked_at  # noqa: E402
+import image_facts  # noqa: E402
 from image_facts import LARGEST_CONF, LONGEST_CACHE, is_library_name  # noqa: E402
 from image_listing import Walk, working_directory  # noqa: E402
 from image_search import Conf, Image, Node, components, join, last, parent, searched  # noqa: E402
@@ -32,14 +33,14 @@ IS_INSTALLED = HERE.is_file()
 BESIDE, BUILT = HERE.parent / "ldconfig-image", HERE.parent / "crates/ldconfig/out/ldconfig"
 INSTALLED = BESIDE if BESIDE.exists() else shutil.which("ldconfig-image") or BESIDE
 PROGRAM = Path(os.environ.get("LDCONFIG") or (INSTALLED if IS_INSTALLED else BUILT)).absolute()
-CACHE, AUX = b"/etc/ld.so.cache", b"/var/cache/ldconfig/aux-cache"
+MANIFEST, CACHE, AUX = (b"/" + path.encode() for path in (image_facts.MANIFEST, image_facts.CACHE, image_facts.AUX))
 KINDS = {stat.S_IFLNK: "a symbolic link", stat.S_IFDIR: "a directory", stat.S_IFREG: "a regular file", stat.S_IFIFO: "a pipe"}
 # The kinds of files that a manifest has.
 TREE_KINDS = (stat.S_IFREG, stat.S_IFDIR, stat.S_IFLNK)
 # The number of bytes that are copied at once.
 PIECE = 2**20
 # The keys of the program's own files and their temporary files, and where it finds files of the image that have such a key.
-OWN_KEYS = re.compile(rb"(image\.mtree|etc/ld\.so\.cache|var/cache/ldconfig/aux-cache)(\.tmp.*)?", re.DOTALL)
+OWN_KEYS = re.compile(b"(%s)(\\.tmp.*)?" % b"|".join(re.escape(path[1:]) for path in (MANIFEST, CACHE, AUX)), re.DOTALL)
 APART = ".update-image.apart"
 # The name of a private directory below TMPDIR.
 BEFORE, AFTER = "update-image.", ".private"
@@ -396,8 +397,8 @@ def plan_of(folder, manifest):
         places, conf_dirs = copy_looked_at(image, folder, work)
         # A manifest has no special files, and a link can't take their place either.
         manifest = manifest.for_program(image.contents.moved, special_files(image, folder, places))
-        (Path(work) / "image.mtree").write_bytes(manifest.text)
+        (Path(work) / image_facts.MANIFEST).write_bytes(manifest.text)
         report = run_program(work)
-        links = manifest.links_added((Path(work) / "image.mtree").read_bytes())
+        links = manifest.links_added((Path(work) / image_facts.MANIFEST).read_bytes())
         cache = (Path(work) / CACHE.decode()[1:]).read_bytes()
     return Plan(report, links, cache, image, places, conf_dirs)

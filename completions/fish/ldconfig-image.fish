@@ -26,7 +26,7 @@ complete -c ldconfig-image -n __ldconfig_image_needs_command -a sample -d 'Updat
 complete -c ldconfig-image -n __ldconfig_image_needs_command -a print -d 'Print the cache'
 complete -c ldconfig-image -n __ldconfig_image_needs_command -s p -d 'Print the cache'
 complete -c ldconfig-image -n __ldconfig_image_needs_command -a lookup -d 'Print the path that the loader takes for a name'
-complete -c ldconfig-image -n __ldconfig_image_needs_command -a resolve -d 'List the libraries that a program loads'
+complete -c ldconfig-image -n __ldconfig_image_needs_command -a resolve -d 'List the libraries that programs load'
 complete -c ldconfig-image -n '__fish_seen_subcommand_from update batch' -l tag -x -d 'Number in the names of temporary files'
 complete -c ldconfig-image -n '__fish_seen_subcommand_from lookup' -l abi -x -a 'i386 x86-64 x32 aarch64 arm-hf riscv64-d' -d 'ABI of the program'
 complete -c ldconfig-image -n '__fish_seen_subcommand_from lookup resolve' -l caps -x -d 'Hwcaps names between colons'

@@ -1,37 +1,26 @@
 -- A command that only asks, from what it reads, its answer, and how it ends.
-use Rattle.std.proofs.Common.{◌≡◌, ℕ, List, Option, Some, None, Result, Ok, Err, inr, refl, subst}
+use Rattle.std.proofs.Common.{◌≡◌, Result, Ok, Err, refl, subst}
 use Rattle.std.specs.Result.{result_map_both}
 use Rattle.commands.specs.Devices.{DeviceStates}
-use Rattle.cache_reader.specs.Cache.{CachedEntry}
 use Rattle.commands.specs.declared.kinds.Resolve.{Resolve}
-use Rattle.image_tree.specs.Tree.{Nodes}
-use Rattle.ldd_resolve.specs.Resolving.{BeginsBy, BeginsFor, ReadsListing, object_at, program_at, record_of}
-use Rattle.ldd_resolve.specs.Listing.{Record}
-use Rattle.ldd_resolve.specs.declared.kinds.ResolveFault.TheVariants as resolving
-use Rattle.elf_dynamic.specs.declared.kinds.Object.{Object}
-use Rattle.lib_types.specs.declared.analysis.Defect.{Defect}
-use Rattle.rpath_search.specs.declared.kinds.Env.{Env}
 use Rattle.image_session.specs.Reading.{ReadsContent, ReadsImage}
 use Rattle.image_session.specs.declared.fault.LoadFault.{LoadFault}
 use Rattle.image_session.specs.declared.fault.SlotFault.{SlotFault}
 use Rattle.image_session.specs.declared.reading.ReadImage.{ReadImage}
 use Rattle.image_session.specs.declared.reading.TreeSource.TheVariants as sources
-use Rattle.tree_face.proofs.StoreUse.{reads_all}
 use Rattle.tree_face.specs.declared.disk.Slot.TheVariants as slots
 use Rattle.tree_face.specs.Disk.{Content}
-use Rattle.tree_face.specs.Store.{Contents, StoreState}
-use Rattle.tree_face.specs.StoreUse.{Complete, GaveUp}
 use Rattle.tree_face.specs.Stream.{SinkState}
 use Rattle.command_status.specs.Ending.{AnswerText, EndsAs}
 use Rattle.command_status.specs.declared.status.Status.{Status}
 use Rattle.asking_runs.proofs.Completing.{completes, completes_listing}
 use Rattle.asking_runs.specs.AskCache.{AsksCache, CacheAnswer, answer_of}
 use Rattle.asking_runs.specs.Faults.{of_cache, of_list}
-use Rattle.asking_runs.specs.Resolve.{AnswersImage, ListsProgram, ResolveRun, listed_answer, listed_text}
+use Rattle.asking_runs.specs.Listings.{listed_text}
+use Rattle.asking_runs.specs.Resolve.{AnswersImage, ResolveRun, listed_answer}
 use Rattle.asking_runs.specs.declared.fault.CacheFault.{CacheFault}
 use Rattle.asking_runs.specs.declared.fault.ListFault.{ListFault}
-use Rattle.asking_runs.specs.declared.fault.ListFault.TheVariants as faults
-use Rattle.asking_runs.specs.declared.resolve.Listed.{Listed}
+use Rattle.asking_runs.specs.declared.listings.Listed.{Listed}
 
 -- a command that ends with an answer ends with the text or the status of that answer
 module _ {A F : Type 0} (f : A → AnswerText) (g : F → Status) (status : Status) (a b : SinkState) where
@@ -62,29 +51,3 @@ module _ (old new : DeviceStates) (status : Status) where
         source = source;
         complete = completes_listing old new status asked read (listed_answer result) reads answers by_answer;
       }
-
--- ---- a listing for whose text memory runs out
-
-module _ (t : Nodes) (cache : Option (List CachedEntry)) (path : List ℕ) (env : Env) (a b : StoreState) where
-  by_object : (held : Contents) (key : List (List ℕ)) (at : Object → ℕ → Record) (o : Option (Result Object Defect)) → BeginsBy o at key held Complete a b → BeginsBy o at key held GaveUp a b
-  by_object held key at None reads = reads_all _ _ _ _ _ reads
-  by_object held key at (Some (Err d)) reads = reads_all _ _ _ _ _ reads
-  by_object held key at (Some (Ok o)) reads = record { requests = reads.requests; reads = reads_all _ _ _ _ _ reads.reads; all = tt }
-
-  by_file : (held : Contents) (file : Option (List ℕ)) → BeginsFor t cache path env held file Complete a b → BeginsFor t cache path env held file GaveUp a b
-  by_file held None reads = reads_all _ _ _ _ _ reads
-  by_file held (Some real) reads = by_object held _ (record_of t cache path env held real) (object_at held t real) reads
-
-  gave_up : (known : Option Contents) → ReadsListing known t cache path env Complete a b → ReadsListing known t cache path env GaveUp a b
-  gave_up None reads = reads_all _ _ _ _ _ reads
-  gave_up (Some held) reads = by_file held (program_at t path) reads
-
-  pub no_text : ReadsListing a.held t cache path env Complete a b → ListsProgram path env t cache (Err (faults.Program resolving.NoMemory)) a b
-  no_text reads = record {
-    listing = Err resolving.NoMemory;
-    is = tt;
-    no_program = record { only = λ e. absurd (cc (e)); always = λ e. inr refl };
-    bad_program = tt;
-    reads = gave_up a.held reads;
-    answer_is = refl;
-  }

@@ -1,22 +1,21 @@
 -- A command that finds what it asks for ends with its answer.
-use Rattle.std.proofs.Common.{◌≡◌, ◌⊎◌, ◌∷◌, [], ℕ, List, Bool, true, false, Option, Some, None, Result, Ok, Err, inl, inr, ap, refl, subst, sym, ◌∙◌}
+use Rattle.std.proofs.Common.{◌≡◌, ◌⊎◌, ℕ, List, Bool, true, false, Option, Some, None, Result, Ok, Err, inl, inr, ap, refl, subst, sym, ◌∙◌}
 use Rattle.std.proofs.lemmas.Bool.{true≢false}
-use Rattle.std.specs.Prelude.{IfOk, if◌then◌else◌, not}
+use Rattle.std.specs.Prelude.{IfOk, if◌then◌else◌}
+use Rattle.std.specs.List.{list_any}
 use Rattle.std.specs.Result.{result_map_both}
 use Rattle.commands.specs.Devices.{DeviceStates, IfBothKnown}
-use Rattle.elf_dynamic.specs.Begun.{file_keys, lacks_one}
-use Rattle.elf_dynamic.specs.declared.kinds.Object.{Object}
 use Rattle.cache_reader.specs.Cache.{CachedEntry}
 use Rattle.cache_reader.specs.declared.defect.CacheDefect.{CacheDefect}
 use Rattle.commands.specs.declared.kinds.Resolve.{Resolve}
-use Rattle.lib_types.specs.declared.analysis.Defect.{Defect}
 use Rattle.rpath_search.specs.declared.kinds.SystemDirs.{SystemDirs}
 use Rattle.rpath_search.specs.declared.kinds.SystemDirs.TheVariants as systems
 use Rattle.image_tree.specs.Tree.{Nodes}
-use Rattle.ldd_resolve.specs.Resolving.{BeginsBy, BeginsFor, IfBadProgram, IsBadProgram, IsNoProgram, ReadsListing, object_at, program_at, record_of, resolve_ending}
-use Rattle.ldd_resolve.specs.declared.kinds.Item.{Item}
-use Rattle.ldd_resolve.specs.declared.kinds.ResolveFault.{ResolveFault}
-use Rattle.ldd_resolve.specs.declared.kinds.ResolveFault.TheVariants as resolving
+use Rattle.ldd_resolve.specs.Each.{ListsEach}
+use Rattle.ldd_resolve.specs.declared.kinds.ProgramFault.{ProgramFault}
+use Rattle.ldd_resolve.specs.declared.kinds.ProgramListing.{ProgramListing}
+use Rattle.rpath_search.specs.declared.fault.SearchFault.{SearchFault}
+use Rattle.rpath_search.specs.declared.fault.SearchFault.TheVariants as searches
 use Rattle.image_session.specs.Manifest.{HasTree, Manifest, Empty, Faulty, manifest_of}
 use Rattle.image_session.specs.Reading.{ReadsContent, ReadsImage}
 use Rattle.image_session.specs.declared.fault.LoadFault.{LoadFault}
@@ -29,17 +28,19 @@ use Rattle.tree_face.specs.declared.disk.Slot.TheVariants as slots
 use Rattle.tree_face.specs.Disk.{Content, DiskContent}
 use Rattle.tree_face.specs.Known.{IfKnown}
 use Rattle.tree_face.specs.Store.{Contents}
-use Rattle.tree_face.specs.StoreUse.{DeviceFailed}
 use Rattle.lib_types.specs.Counts.{HasRisen}
-use Rattle.command_status.specs.Ending.{AnswerText, EndsAs, answered}
+use Rattle.command_status.specs.Ending.{AnswerText, EndsAs, answered, first_status}
 use Rattle.command_status.specs.declared.status.Status.{Status}
 use Rattle.command_status.specs.declared.status.Status.TheVariants.{Done, Missing, NoMemory}
 use Rattle.asking_runs.specs.AskCache.{CacheAnswer, answer_of}
 use Rattle.asking_runs.specs.Complete.{Completes, NoFault}
 use Rattle.asking_runs.specs.Faults.{of_cache, of_list}
-use Rattle.asking_runs.specs.Resolve.{AnswersImage, CompletesListing, HasListing, IsAnswerable, ListsImage, ListsProgram, ListsWith, cache_of, env_of, is_whole, list_answer}
+use Rattle.asking_runs.proofs.Listing.{none_faulty, stopped_by_memory}
+use Rattle.asking_runs.specs.Listings.{is_missing_one, listings_answer}
+use Rattle.asking_runs.specs.Resolve.{AnswersImage, CompletesListing, HaveListings, IsAnswer, IsAnswerable, ListsImage, ListsPrograms, ListsWith, cache_of, env_of}
 use Rattle.asking_runs.specs.declared.fault.CacheFault.{CacheFault}
 use Rattle.asking_runs.specs.declared.fault.ListFault.{ListFault}
+use Rattle.asking_runs.specs.declared.fault.ListFault.TheVariants as faults
 
 if_ok : {A E : Type 0} (r : Result A E) (P : A → Type 0) → ((a : A) → P a) → IfOk r P
 if_ok (Ok a) P f = f a
@@ -91,47 +92,29 @@ module _ (old new : DeviceStates) (status : Status) where
     abbrev EndsBy : Result AnswerText ListFault → Type 0
     EndsBy answer = EndsAs (result_map_both (λ answer. answer) of_list answer) status old.sink new.sink
 
-    other_file : (tree : Nodes) (real other : List ℕ) (o : Object) (d : Defect) → program_at tree asked.path ≡ Some real → program_at tree asked.path ≡ Some other → object_at held tree real ≡ Some (Ok o)
-        → object_at held tree other ≡ Some (Err d) → ⊥
-    other_file tree real other o d file file' says says' =
-        let same : real ≡ other = cc (file, file') in
-        absurd (cc (says, says', same))
+    module _ (system : SystemDirs) (tree : Nodes) (cache : Option (List CachedEntry)) (all : HaveListings system asked tree cache held) (none : NoFault old new) where
+      by_listings : (listings : Result (List ProgramListing) SearchFault) (answer : Result AnswerText ListFault) → ListsEach (Some held) tree cache (env_of system asked) asked.paths listings old.store new.store
+          → IsAnswer listings answer → EndsBy answer → Ends
+      by_listings (Ok ls) answer lists (inl is) ends =
+          let missing = list_any (λ l. is_missing_one l.listing) ls in
+          by_missing missing (subst (λ (fault : Option ProgramFault). status ≡ first_status fault (if missing then Missing else Done))
+          (none_faulty held (env_of system asked) tree cache asked.paths ls old.store new.store all lists none.store) (ended (listings_answer ls) (subst EndsBy is ends) none))
+      by_listings (Ok ls) answer lists (inr is) ends = inr (subst EndsBy is ends).0
+      by_listings (Err fault) answer lists is ends =
+          inr (subst (λ (f : SearchFault). status ≡ of_list (faults.Search f)) (stopped_by_memory held (env_of system asked) tree cache fault asked.paths old.store new.store all lists none.store)
+          (subst EndsBy is ends).0)
 
-    lacking : (before after : ℕ) (keys : List (List ℕ)) → lacks_one held keys ≡ false → (HasRisen before after → ⊥) → HasRisen before after ⊎ (lacks_one held keys ≡ true) → ⊥
-    lacking before after keys holds none (inl risen) = none risen
-    lacking before after keys holds none (inr lacks) = true≢false (sym lacks ∙ holds)
-
-    module _ (system : SystemDirs) (tree : Nodes) (cache : Option (List CachedEntry)) (is : HasListing system asked tree cache held) (none : NoFault old new) where
-      fails : ReadsListing (Some held) tree cache asked.path (env_of system asked) DeviceFailed old.store new.store → ⊥
-      fails reads =
-          let of_file = subst (λ (file : Option (List ℕ)). BeginsFor tree cache asked.path (env_of system asked) held file DeviceFailed old.store new.store) is.file reads in
-          let of_object = subst (λ (o : Option (Result Object Defect)). BeginsBy o (record_of tree cache asked.path (env_of system asked) held is.real) (file_keys tree (is.real ∷ [])) held DeviceFailed old.store new.store) is.says of_file in
-          lacking _ _ _ (is.holds of_object.requests) none.store of_object.reads.cause
-
-      by_listing : (listing : Result (List Item) ResolveFault) → IsNoProgram (program_at tree asked.path) listing
-          → IfBadProgram listing (λ d. IfKnown (Some held) (λ held. IsBadProgram held tree asked.path d))
-          → ReadsListing (Some held) tree cache asked.path (env_of system asked) (resolve_ending listing) old.store new.store → EndsBy (list_answer listing) → Ends
-      by_listing (Ok items) no_program bad_program reads ends = by_missing (not (is_whole items)) (ended _ ends none)
-      by_listing (Err resolving.NoProgram) no_program bad_program reads ends = absurd (nothing (no_program.only refl) is.file)
-        where
-          nothing : {file : Option (List ℕ)} {real : List ℕ} → file ≡ None → file ≡ Some real → ⊥
-          nothing e f = absurd (cc (e, f))
-      by_listing (Err (resolving.BadProgram d)) no_program bad_program reads ends = absurd (other_file tree is.real bad_program.real is.object d is.file bad_program.file is.says bad_program.says)
-      by_listing (Err resolving.StoreFault) no_program bad_program reads ends = absurd (fails reads)
-      by_listing (Err resolving.NoMemory) no_program bad_program reads ends = inr ends.0
-
-      by_lists : (answer : Result AnswerText ListFault) → old.store.held ≡ Some held → ListsProgram asked.path (env_of system asked) tree cache answer old.store new.store → EndsBy answer → Ends
-      by_lists answer known lists ends = by_listing lists.listing lists.no_program
-          (subst (λ (h : Option Contents). IfBadProgram lists.listing (λ d. IfKnown h (λ held. IsBadProgram held tree asked.path d))) known lists.bad_program)
-          (subst (λ (h : Option Contents). ReadsListing h tree cache asked.path (env_of system asked) (resolve_ending lists.listing) old.store new.store) known lists.reads)
-          (subst EndsBy lists.answer_is ends)
+      by_lists : (answer : Result AnswerText ListFault) → old.store.held ≡ Some held → ListsPrograms asked.paths (env_of system asked) tree cache answer old.store new.store → EndsBy answer → Ends
+      by_lists answer known lists ends =
+          by_listings lists.listings answer
+          (subst (λ (h : Option Contents). ListsEach h tree cache (env_of system asked) asked.paths lists.listings old.store new.store) known lists.lists) lists.answer_is ends
 
       -- an image of this tree and cache was read
       pub by_image : (image : ReadImage) (answer : Result AnswerText ListFault) → old.store.held ≡ Some held → image.tree ≡ tree → cache_of image.cache ≡ Ok cache
           → ListsImage system asked image answer old.store new.store → EndsBy answer → Ends
       by_image image answer known same entries lists ends =
-          let by_tree = subst (λ (t : Nodes). ListsWith asked.path (env_of system asked) t (cache_of image.cache) answer old.store new.store) same lists in
-          let by_cache = subst (λ (c : Result (Option (List CachedEntry)) CacheDefect). ListsWith asked.path (env_of system asked) tree c answer old.store new.store) entries by_tree in
+          let by_tree = subst (λ (t : Nodes). ListsWith asked.paths (env_of system asked) t (cache_of image.cache) answer old.store new.store) same lists in
+          let by_cache = subst (λ (c : Result (Option (List CachedEntry)) CacheDefect). ListsWith asked.paths (env_of system asked) tree c answer old.store new.store) entries by_tree in
           by_lists answer known by_cache ends
 
     abbrev tree_or : Nodes → Manifest → Nodes
@@ -150,7 +133,7 @@ module _ (old new : DeviceStates) (status : Status) where
       of_manifest image answer tree cache lists ends =
           let same : image.tree ≡ right.tree = ap (tree_or image.tree) (sym tree ∙ right.manifest) in
           let entries : cache_of image.cache ≡ Ok right.entries = sym (ap cache_of cache) ∙ right.cache in
-          by_image systems.Loader right.tree right.entries right.listing none image answer known same entries lists ends
+          by_image systems.Loader right.tree right.entries right.listings none image answer known same entries lists ends
 
       by_read : (read : Result ReadImage LoadFault) (answer : Result AnswerText ListFault) → old.disk.contents ≡ Some content → ReadsImage sources.Manifest read old.disk new.disk
           → AnswersImage asked read answer old.store new.store → EndsBy answer → Ends

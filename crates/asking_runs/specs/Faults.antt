@@ -6,6 +6,7 @@ use Rattle.command_status.specs.declared.status.Status.{Status}
 use Rattle.command_status.specs.declared.status.Status.TheVariants as statuses
 use Rattle.image_session.specs.declared.fault.SlotFault.{SlotFault}
 use Rattle.image_session.specs.declared.fault.SlotFault.TheVariants as slot_faults
+use Rattle.ldd_resolve.specs.Faults.{of_search}
 use Rattle.asking_runs.specs.declared.fault.CacheFault.{CacheFault}
 use Rattle.asking_runs.specs.declared.fault.CacheFault.TheVariants as caches
 use Rattle.asking_runs.specs.declared.fault.ListFault.{ListFault}
@@ -25,7 +26,7 @@ of_cache (caches.BadCache defect) = statuses.BadCache defect
 abbrev pub of_list : ListFault → Status
 of_list (lists.Image fault) = of_load fault
 of_list (lists.BadCache defect) = statuses.BadCache defect
-of_list (lists.Program fault) = of_resolve fault
+of_list (lists.Search fault) = of_resolve (of_search fault)
 
 -- ---- no reason has the status of invalid arguments
 
@@ -38,4 +39,4 @@ cache_no_usage (caches.BadCache defect) e = absurd (cc)
 pub list_no_usage : (fault : ListFault) → of_list fault ≡ statuses.Usage → ⊥
 list_no_usage (lists.Image fault) e = load_no_usage fault e
 list_no_usage (lists.BadCache defect) e = absurd (cc)
-list_no_usage (lists.Program fault) e = resolve_no_usage fault e
+list_no_usage (lists.Search fault) e = resolve_no_usage (of_search fault) e

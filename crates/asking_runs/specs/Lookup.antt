@@ -19,7 +19,7 @@ path_text None = line (codes "not found")
 path_text (Some path) = line path
 
 abbrev pub path_answer : Option (List ℕ) → AnswerText
-path_answer path = record { text = path_text path; missing = is_none path }
+path_answer path = record { text = path_text path; missing = is_none path; fault = None }
 
 abbrev pub lookup_by : Lookup → Result (List CachedEntry) CacheDefect → Result AnswerText CacheFault
 lookup_by asked (Err d) = Err (BadCache d)

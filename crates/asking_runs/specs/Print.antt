@@ -16,7 +16,7 @@ cache_name = codes "/etc/ld.so.cache"
 
 -- the entries as text, after a line with this name
 abbrev pub printed_answer : List ℕ → List ℕ → AnswerText
-printed_answer name bytes = record { text = printed bytes name; missing = false }
+printed_answer name bytes = record { text = printed bytes name; missing = false; fault = None }
 
 abbrev pub print_by : List ℕ → List ℕ → Option CacheDefect → Result AnswerText CacheFault
 print_by name bytes (Some d) = Err (BadCache d)

@@ -1,6 +1,6 @@
--- The command `resolve`: what the loader loads for a program (ld.so(8); ldd(1) lists it).
-use Rattle.std.specs.Prelude.{◌≡◌, ◌⊎◌, ℕ, Bool, false, List, Option, Some, None, is_some, not, Result, Ok, Err, IfOk}
-use Rattle.std.specs.List.{list_all}
+-- The command `resolve`: what the loader loads for programs (ld.so(8); ldd(1) lists it).
+use Rattle.std.specs.Prelude.{◌≡◌, ◌⊎◌, ℕ, false, List, Option, Some, None, Result, Ok, Err}
+use Rattle.std.specs.List.{AllByRecursion}
 use Rattle.std.specs.Result.{result_map_both}
 use Rattle.cache_lookup.specs.Sorted.{sorted_in}
 use Rattle.cache_reader.specs.Cache.{CachedEntry}
@@ -11,14 +11,14 @@ use Rattle.elf_dynamic.specs.Begun.{lacks_one}
 use Rattle.elf_dynamic.specs.declared.kinds.Object.{Object}
 use Rattle.rpath_search.specs.declared.kinds.SystemDirs.{SystemDirs}
 use Rattle.rpath_search.specs.declared.kinds.SystemDirs.TheVariants as systems
-use Rattle.ldd_resolve.specs.Printed.{listing_text}
-use Rattle.ldd_resolve.specs.Resolving.{IfBadProgram, IsBadProgram, IsListing, IsNoProgram, ReadsListing, object_at, program_at, record_of, resolve_ending}
-use Rattle.ldd_resolve.specs.declared.kinds.Item.{Item}
-use Rattle.ldd_resolve.specs.declared.kinds.ResolveFault.{ResolveFault}
+use Rattle.rpath_search.specs.declared.fault.SearchFault.{SearchFault}
+use Rattle.rpath_search.specs.declared.fault.SearchFault.TheVariants as searches
+use Rattle.ldd_resolve.specs.Each.{ListsEach}
+use Rattle.ldd_resolve.specs.Resolving.{object_at, program_at, record_of}
+use Rattle.ldd_resolve.specs.declared.kinds.ProgramListing.{ProgramListing}
 use Rattle.lib_types.specs.declared.abi.Abi.TheVariants.{X86_64}
 use Rattle.rpath_search.specs.declared.kinds.Env.{Env}
 use Rattle.tree_face.specs.Disk.{Content, Slots}
-use Rattle.tree_face.specs.Known.{IfKnown}
 use Rattle.tree_face.specs.Store.{Contents, StoreState}
 use Rattle.image_tree.specs.Tree.{Nodes}
 use Rattle.image_session.specs.Manifest.{HasTree, manifest_of}
@@ -31,9 +31,10 @@ use Rattle.command_status.specs.declared.status.Status.{Status}
 use Rattle.command_status.specs.declared.status.Status.TheVariants.{Done, Missing, NoMemory}
 use Rattle.asking_runs.specs.Complete.{NoFault}
 use Rattle.asking_runs.specs.Faults.{of_list}
+use Rattle.asking_runs.specs.Listings.{listed_text, listings_answer}
 use Rattle.asking_runs.specs.declared.fault.ListFault.{ListFault}
 use Rattle.asking_runs.specs.declared.fault.ListFault.TheVariants as faults
-use Rattle.asking_runs.specs.declared.resolve.Listed.{Listed}
+use Rattle.asking_runs.specs.declared.listings.Listed.{Listed}
 
 -- ---- the answer
 
@@ -48,22 +49,16 @@ env_of system asked = record {
   system = system;
 }
 
--- each needed name has a path
-abbrev pub is_whole : List Item → Bool
-is_whole items = list_all (λ item. is_some item.path) items
+-- the answer for the listings, unless memory runs out for its text; or the fault that ended them
+abbrev pub IsAnswer : Result (List ProgramListing) SearchFault → Result AnswerText ListFault → Type 0
+IsAnswer (Ok ls) answer = (answer ≡ Ok (listings_answer ls)) ⊎ (answer ≡ Err (faults.Search searches.NoMemory))
+IsAnswer (Err fault) answer = answer ≡ Err (faults.Search fault)
 
-abbrev pub list_answer : Result (List Item) ResolveFault → Result AnswerText ListFault
-list_answer (Ok items) = Ok (record { text = listing_text items; missing = not (is_whole items) })
-list_answer (Err fault) = Err (faults.Program fault)
-
--- This is the text of the program's listing, or the reason why there is none.
-pub record ListsProgram (path : List ℕ) (env : Env) (tree : Nodes) (cache : Option (List CachedEntry)) (answer : Result AnswerText ListFault) (old new : StoreState) : Type 0 where
-  pub listing : Result (List Item) ResolveFault
-  pub is : IfOk listing (λ items. IfKnown old.held (λ held. IsListing tree cache path env held items))
-  pub no_program : IsNoProgram (program_at tree path) listing
-  pub bad_program : IfBadProgram listing (λ d. IfKnown old.held (λ held. IsBadProgram held tree path d))
-  pub reads : ReadsListing old.held tree cache path env (resolve_ending listing) old new
-  pub answer_is : answer ≡ list_answer listing
+-- The programs at these paths are listed, and this is the answer.
+pub record ListsPrograms (paths : List (List ℕ)) (env : Env) (tree : Nodes) (cache : Option (List CachedEntry)) (answer : Result AnswerText ListFault) (old new : StoreState) : Type 0 where
+  pub listings : Result (List ProgramListing) SearchFault
+  pub lists : ListsEach old.held tree cache env paths listings old new
+  pub answer_is : IsAnswer listings answer
 
 -- ---- from what was read
 
@@ -72,14 +67,14 @@ abbrev pub cache_of : Content → Result (Option (List CachedEntry)) CacheDefect
 cache_of None = Ok None
 cache_of (Some bytes) = result_map_both Some (λ d. d) (sorted_in bytes)
 
--- the cache is malformed, or the program is listed with it
-abbrev pub ListsWith : List ℕ → Env → Nodes → Result (Option (List CachedEntry)) CacheDefect → Result AnswerText ListFault → StoreState → StoreState → Type 0
-ListsWith path env tree (Err d) answer old new = (answer ≡ Err (faults.BadCache d)) × (new ≡ old)
-ListsWith path env tree (Ok cache) answer old new = ListsProgram path env tree cache answer old new
+-- the cache is malformed, or the programs are listed with it
+abbrev pub ListsWith : List (List ℕ) → Env → Nodes → Result (Option (List CachedEntry)) CacheDefect → Result AnswerText ListFault → StoreState → StoreState → Type 0
+ListsWith paths env tree (Err d) answer old new = (answer ≡ Err (faults.BadCache d)) × (new ≡ old)
+ListsWith paths env tree (Ok cache) answer old new = ListsPrograms paths env tree cache answer old new
 
 -- the same, for an image that was read
 abbrev pub ListsImage : SystemDirs → Resolve → ReadImage → Result AnswerText ListFault → StoreState → StoreState → Type 0
-ListsImage system asked image answer old new = ListsWith asked.path (env_of system asked) image.tree (cache_of image.cache) answer old new
+ListsImage system asked image answer old new = ListsWith asked.paths (env_of system asked) image.tree (cache_of image.cache) answer old new
 
 abbrev pub AnswersImage : Resolve → Result ReadImage LoadFault → Result AnswerText ListFault → StoreState → StoreState → Type 0
 AnswersImage asked (Err fault) answer old new = (answer ≡ Err (faults.Image fault)) × (new ≡ old)
@@ -88,20 +83,24 @@ AnswersImage asked (Ok image) answer old new = ListsImage systems.Loader asked i
 -- ---- completeness
 
 -- the program's file is an ELF object, and the store holds each file that its listing opens
-pub record HasListing (system : SystemDirs) (asked : Resolve) (tree : Nodes) (cache : Option (List CachedEntry)) (held : Contents) : Type 0 where
+pub record HasListing (env : Env) (tree : Nodes) (cache : Option (List CachedEntry)) (held : Contents) (path : List ℕ) : Type 0 where
   pub real : List ℕ
-  pub file : program_at tree asked.path ≡ Some real
+  pub file : program_at tree path ≡ Some real
   pub object : Object
   pub says : object_at held tree real ≡ Some (Ok object)
-  pub holds : (requests : ℕ) → lacks_one held (record_of tree cache asked.path (env_of system asked) held real object requests).keys ≡ false
+  pub holds : (requests : ℕ) → lacks_one held (record_of tree cache path env held real object requests).keys ≡ false
 
--- the manifest has a tree, the cache is well-formed if there is one, and the program has a listing
+-- each program that is asked for has a listing
+abbrev pub HaveListings : SystemDirs → Resolve → Nodes → Option (List CachedEntry) → Contents → Type 0
+HaveListings system asked tree cache held = AllByRecursion (HasListing (env_of system asked) tree cache held) asked.paths
+
+-- the manifest has a tree, the cache is well-formed if there is one, and each program has a listing
 pub record IsAnswerable (asked : Resolve) (held : Contents) (slots : Slots) : Type 0 where
   pub tree : Nodes
   pub manifest : manifest_of slots.manifest ≡ HasTree tree
   pub entries : Option (List CachedEntry)
   pub cache : cache_of slots.cache ≡ Ok entries
-  pub listing : HasListing systems.Loader asked tree entries held
+  pub listings : HaveListings systems.Loader asked tree entries held
 
 abbrev pub CompletesListing : Resolve → Contents → Slots → DeviceStates → DeviceStates → Status → Type 0
 CompletesListing asked held slots old new status =
@@ -120,9 +119,6 @@ pub record ResolveRun (asked : Resolve) (old new : DeviceStates) (status : Statu
   pub complete : IfBothKnown old.store.held old.disk.contents (λ held content. CompletesListing asked held content.now old new status)
 
 -- ---- what private functions say
-
-abbrev pub listed_text : Listed → AnswerText
-listed_text listed = record { text = listed.text.items; missing = not listed.is_whole }
 
 abbrev pub listed_answer : Result Listed ListFault → Result AnswerText ListFault
 listed_answer result = result_map_both listed_text (λ fault. fault) result

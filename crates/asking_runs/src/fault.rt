@@ -3,13 +3,14 @@ ghost use Rattle.std.specs.Prelude.{◌≡◌};
 ghost use Rattle.asking_runs.specs.Faults.{of_slot};
 ghost use Rattle.asking_runs.specs.declared.fault.CacheFault.TheVariants as caches;
 ghost use Rattle.asking_runs.specs.declared.fault.ListFault.TheVariants as lists;
-ghost use Rattle.ldd_resolve.specs.declared.kinds.ResolveFault.TheVariants as resolving;
+ghost use Rattle.rpath_search.specs.declared.fault.SearchFault.TheVariants as searches;
 
 use cache_reader::CacheDefect;
 use command_status::{Fault, Status};
 use image_session::{LoadFault, SlotFault};
 use ldd_resolve::ResolveFault;
 use lib_types::NoMemory;
+use rpath_search::SearchFault;
 
 /// Why a cache can't be read.
 #[derive(Clone, Copy, Debug, PartialEq, Eq)]
@@ -23,15 +24,15 @@ pub(crate) enum CacheFault {
     BadCache(CacheDefect),
 }
 
-/// Why a program isn't listed.
+/// Why programs aren't listed.
 #[derive(Clone, Copy, Debug, PartialEq, Eq)]
 pub enum ListFault {
     /// The image can't be read.
     Image(LoadFault),
     /// The first defect of the cache.
     BadCache(CacheDefect),
-    /// The program has no listing.
-    Program(ResolveFault),
+    /// A program's libraries can't be searched for.
+    Search(SearchFault),
 }
 
 impl From<SlotFault> for CacheFault {
@@ -78,19 +79,19 @@ impl From<CacheDefect> for ListFault {
     }
 }
 
-impl From<ResolveFault> for ListFault {
-    ghost from_gives = { λ fault e. e ≡ lists.Program fault };
+impl From<SearchFault> for ListFault {
+    ghost from_gives = { λ fault e. e ≡ lists.Search fault };
 
-    fn from(fault: ResolveFault) -> Self {
-        ListFault::Program(fault)
+    fn from(fault: SearchFault) -> Self {
+        ListFault::Search(fault)
     }
 }
 
 impl From<NoMemory> for ListFault {
-    ghost from_gives = { λ _ e. e ≡ lists.Program resolving.NoMemory };
+    ghost from_gives = { λ _ e. e ≡ lists.Search searches.NoMemory };
 
     fn from(_: NoMemory) -> Self {
-        ListFault::Program(ResolveFault::NoMemory)
+        ListFault::Search(SearchFault::NoMemory)
     }
 }
 
@@ -103,7 +104,7 @@ impl Fault for ListFault {
         match self {
             ListFault::Image(fault) => fault.status(),
             ListFault::BadCache(defect) => Status::BadCache(defect),
-            ListFault::Program(fault) => fault.status(),
+            ListFault::Search(fault) => ResolveFault::from(fault).status(),
         }
     }
 

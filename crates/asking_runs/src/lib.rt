@@ -3,11 +3,13 @@
 
 mod cache;
 mod fault;
+mod listings;
 mod lookup;
 mod print;
 mod resolve;
 
 pub use fault::ListFault;
+pub use listings::Listed;
 pub use lookup::run_lookup;
 pub use print::{run_print, run_print_named};
-pub use resolve::{Listed, list_image, run_resolve};
+pub use resolve::{list_image, run_resolve};

@@ -15,6 +15,7 @@ use cache_lookup::{Counted, Sorted, sorted_cache};
 use command_status::{Answer, Status, end};
 use commands::Lookup;
 use image_session::{SlotFault, read_slot};
+use ldd_resolve::ProgramFault;
 use lib_types::{Failed, Text};
 use std::alloc::Global;
 use tree_face::{Disk, Sink, Slot, put_all};
@@ -40,6 +41,10 @@ impl<'a> Answer for Found<'a> {
 
     fn is_missing(&self) -> bool {
         self.path.is_none()
+    }
+
+    fn fault(&self) -> Option<ProgramFault> {
+        None
     }
 }
 

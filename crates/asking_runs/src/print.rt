@@ -12,6 +12,7 @@ use crate::fault::CacheFault;
 use cache_reader::CacheView;
 use command_status::{Answer, Status, end};
 use image_session::{SlotFault, read_slot};
+use ldd_resolve::ProgramFault;
 use lib_types::{Failed, Text};
 use std::alloc::Global;
 use tree_face::{Disk, Sink, Slot};
@@ -34,6 +35,10 @@ impl<'a, 'n> Answer for Printed<'a, 'n> {
 
     fn is_missing(&self) -> bool {
         false
+    }
+
+    fn fault(&self) -> Option<ProgramFault> {
+        None
     }
 }
 

@@ -3,55 +3,34 @@ ghost use Rattle.std.specs.Prelude.{◌≡◌};
 ghost use Rattle.std.specs.Option.{option_copied};
 ghost use Rattle.commands.specs.Devices.{states};
 ghost use Rattle.tree_face.specs.Stream.{SourceState};
-ghost use Rattle.asking_runs.specs.Resolve.{AnswersImage, ListsImage, ListsProgram, ListsWith, ResolveRun, cache_of, env_of, is_whole, listed_answer};
+ghost use Rattle.asking_runs.specs.Resolve.{AnswersImage, ListsImage, ListsPrograms, ListsWith, ResolveRun, cache_of, env_of, listed_answer};
 
 use crate::fault::ListFault;
+use crate::listings::{Listed, answer_for};
 use cache_lookup::{Sorted, sorted_cache};
-use command_status::{Answer, Status, end};
+use command_status::{Status, end};
 use commands::Resolve;
 use image_session::{LoadFault, ReadImage, TreeSource, read_image};
-use ldd_resolve::{Listing, listing_text};
-use lib_types::{Abi, Failed, Text};
+use ldd_resolve::resolve_each;
+use lib_types::{Abi, Texts};
 use rpath_search::{Env, SystemDirs};
 use std::alloc::Global;
-use tree_face::{Disk, Sink, Store, Tree, put_all};
+use tree_face::{Disk, Sink, Store, Tree};
 
-// The program to list, and the loader's environment.
+// The programs to list, and the loader's environment.
 #[derive(Drop)]
-struct Program {
-    path: Text,
+struct Programs {
+    paths: Texts,
     env: Env,
 }
 
-/// A listing.
-#[derive(Drop)]
-pub struct Listed {
-    pub text: Vec<u8>,
-    /// Whether each needed name has a path.
-    pub is_whole: bool,
-}
-
-impl Answer for Listed {
-    ghost use Rattle.asking_runs.specs.Resolve.{listed_text};
-
-    ghost answer = { listed_text };
-
-    fn write<O: Sink>(&self, out: &mut O) -> Result<(), Failed> {
-        put_all(out, &self.text)
-    }
-
-    fn is_missing(&self) -> bool {
-        !self.is_whole
-    }
-}
-
-// The program and the loader's environment.
-fn program_of(asked: Resolve, system: SystemDirs) -> Program
-    ensures path { result.path ≡ asked.path }
+// The programs and the loader's environment.
+fn programs_of(asked: Resolve, system: SystemDirs) -> Programs
+    ensures paths { result.paths ≡ asked.paths }
     ensures env { result.env ≡ env_of system asked }
 {
     let Resolve {
-        path,
+        paths,
         caps,
         library_path,
         platform,
@@ -65,58 +44,41 @@ fn program_of(asked: Resolve, system: SystemDirs) -> Program
         secure,
         system,
     };
-    Program { path, env }
+    Programs { paths, env }
 }
 
-// Whether each item has a path.
-fn is_whole(listing: &Listing) -> bool
-    ensures { result ≡ is_whole listing.now }
-{
-    listing.as_slice().iter().all(|item| item.path.is_some())
-}
-
-// The listing of a program.
+// The listings of the programs.
 fn list<S: Store>(
     alloc: Global,
-    program: &Program,
+    programs: Programs,
     tree: &Tree,
     cache: Option<&Sorted<'_>>,
     store: &mut S,
 ) -> Result<Listed, ListFault>
-    ensures { ListsProgram program.now.path program.now.env tree.now (option_copied cache.entry) (listed_answer result) (S.state store.old) (S.state store.new) }
+    ensures { ListsPrograms programs.paths programs.env tree.now (option_copied cache.entry) (listed_answer result) (S.state store.old) (S.state store.new) }
 {
-    let listing = ldd_resolve::resolve(
-        alloc,
-        tree,
-        store,
-        cache,
-        program.path.as_bytes(),
-        &program.env,
-    )?;
-    let text = listing_text(alloc, &listing)?;
-    Ok(Listed {
-        text,
-        is_whole: is_whole(&listing),
-    })
+    let Programs { paths, env } = programs;
+    let listings = resolve_each(alloc, tree, store, cache, paths, &env)?;
+    Ok(answer_for(alloc, &listings)?)
 }
 
 // The answer for an image, if its cache is well-formed.
 fn list_in<S: Store>(
     alloc: Global,
-    program: &Program,
+    programs: Programs,
     image: &ReadImage,
     store: &mut S,
 ) -> Result<Listed, ListFault>
-    ensures { ListsWith program.now.path program.now.env image.now.tree (cache_of image.now.cache) (listed_answer result) (S.state store.old) (S.state store.new) }
+    ensures { ListsWith programs.paths programs.env image.now.tree (cache_of image.now.cache) (listed_answer result) (S.state store.old) (S.state store.new) }
 {
     let Some(bytes) = &image.cache else {
-        return list(alloc, program, &image.tree, None, store);
+        return list(alloc, programs, &image.tree, None, store);
     };
     let cache = sorted_cache(bytes.as_bytes())?;
-    list(alloc, program, &image.tree, Some(&cache), store)
+    list(alloc, programs, &image.tree, Some(&cache), store)
 }
 
-/// The listing of a program of an image that was read.
+/// The listings of programs of an image that was read.
 pub fn list_image<S: Store>(
     alloc: Global,
     asked: Resolve,
@@ -126,8 +88,8 @@ pub fn list_image<S: Store>(
 ) -> Result<Listed, ListFault>
     ensures { ListsImage system asked image.now (listed_answer result) (S.state store.old) (S.state store.new) }
 {
-    let program = program_of(asked, system);
-    list_in(alloc, &program, image, store)
+    let programs = programs_of(asked, system);
+    list_in(alloc, programs, image, store)
 }
 
 // The answer for what was read of an image.

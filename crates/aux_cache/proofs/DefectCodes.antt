@@ -1,83 +1,33 @@
 -- Defects as two numbers of a record.
-use Rattle.std.proofs.Common.{◌≡◌, ◌≢◌, ℕ, ◌<◌, ◌^◌, ◌==◌, ◌&&◌, ◌||◌, Bool, true, false, not, nat_lt, inl, inr, Some, refl, arith}
+use Rattle.std.proofs.Common.{◌≡◌, ℕ, ◌<◌, ◌^◌, ◌==◌, ◌&&◌, ◌||◌, Bool, true, false, not, nat_lt, Some, refl, arith}
 use Rattle.std.proofs.lemmas.Bool.{and_parts}
 use Rattle.std.proofs.lemmas.Bool.Decides.{nat_tests}
-use Rattle.lib_types.specs.Ranges.{IsInRange, IsTextTag}
+use Rattle.lib_types.specs.Ranges.{IsInRange, IsTextTag, is_in_range}
 use Rattle.lib_types.specs.declared.analysis.Defect.{Defect}
 use Rattle.lib_types.specs.declared.analysis.Defect.TheVariants.{NotElf, TooShort, BadClass, BadData, BadMachine, NotShared, BadPhdrs, NoDynamic, DynOutside, NoStrtab, OutsideLoad, BadString, BadSoname, Unsearchable}
 use Rattle.tree_face.proofs.Pairs.{find-passes}
-use Rattle.aux_cache.specs.DefectCodes.{defect_code, defect_of, defect_value, defects_with, has_numbers, is_in_range}
+use Rattle.aux_cache.specs.DefectCodes.{defect_code, defect_of, defect_value, defects_with, has_numbers}
 
 -- ---- the range
 
 below : (n m : ℕ) → nat_lt n m ≡ true → n < m
 below n m h = grind (arith, nat_tests)
 
-is_below : (n m : ℕ) → n < m → nat_lt n m ≡ true
-is_below n m h = grind (arith, nat_tests)
-
-differs : (n m : ℕ) → not (n == m) ≡ true → n ≢ m
-differs n m h = grind (arith, nat_tests)
-
-is_other : (n m : ℕ) → n ≢ m → not (n == m) ≡ true
-is_other n m h = grind (arith, nat_tests)
-
 is_same : (n : ℕ) → (n == n) ≡ true
 is_same n = grind (arith, nat_tests)
 
-tag_of : (n : ℕ) → (n == 1 || n == 14 || n == 15 || n == 29) ≡ true → IsTextTag n
-tag_of n h = by (n == 1) (n == 14) (n == 15) (n == 29) refl refl refl refl h
+tag_small : (n : ℕ) → IsTextTag n → n < 2 ^ 32
+tag_small n h = by (n == 1) (n == 14) (n == 15) (n == 29) refl refl refl refl h
   where
     same : (m : ℕ) → (n == m) ≡ true → n ≡ m
     same m e = grind (arith, nat_tests)
 
-    by : (a b c d : Bool) → (n == 1) ≡ a → (n == 14) ≡ b → (n == 15) ≡ c → (n == 29) ≡ d → (a || b || c || d) ≡ true → IsTextTag n
-    by true b c d e f g i all = inl (same 1 e)
-    by false true c d e f g i all = inr (inl (same 14 f))
-    by false false true d e f g i all = inr (inr (inl (same 15 g)))
-    by false false false true e f g i all = inr (inr (inr (same 29 i)))
+    by : (a b c d : Bool) → (n == 1) ≡ a → (n == 14) ≡ b → (n == 15) ≡ c → (n == 29) ≡ d → (a || b || c || d) ≡ true → n < 2 ^ 32
+    by true b c d e f g i all = omega (arith, same 1 e)
+    by false true c d e f g i all = omega (arith, same 14 f)
+    by false false true d e f g i all = omega (arith, same 15 g)
+    by false false false true e f g i all = omega (arith, same 29 i)
     by false false false false e f g i all = absurd cc
-
-is_tag : (n : ℕ) → IsTextTag n → (n == 1 || n == 14 || n == 15 || n == 29) ≡ true
-is_tag n (inl e) = rw e refl
-is_tag n (inr (inl e)) = rw e refl
-is_tag n (inr (inr (inl e))) = rw e refl
-is_tag n (inr (inr (inr e))) = rw e refl
-
-pub in_range : (d : Defect) → is_in_range d ≡ true → IsInRange d
-in_range NotElf h = tt
-in_range (TooShort n) h = below n 64 h
-in_range (BadClass n) h =
-    let a = and_parts (nat_lt n 256 && not (n == 1)) (not (n == 2)) h in
-    let b = and_parts (nat_lt n 256) (not (n == 1)) a.0 in
-    (below n 256 b.0, differs n 1 b.1, differs n 2 a.1)
-in_range (BadData n) h = let a = and_parts (nat_lt n 256) (not (n == 1)) h in (below n 256 a.0, differs n 1 a.1)
-in_range (BadMachine n) h = below n 65536 h
-in_range (NotShared n) h = let a = and_parts (nat_lt n 65536) (not (n == 3)) h in (below n 65536 a.0, differs n 3 a.1)
-in_range BadPhdrs h = tt
-in_range NoDynamic h = tt
-in_range DynOutside h = tt
-in_range NoStrtab h = tt
-in_range OutsideLoad h = tt
-in_range (BadString n) h = tag_of n h
-in_range BadSoname h = tt
-in_range Unsearchable h = absurd cc
-
-pub by_range : (d : Defect) → IsInRange d → is_in_range d ≡ true
-by_range NotElf h = refl
-by_range (TooShort n) h = is_below n 64 h
-by_range (BadClass n) h = rw (is_below n 256 h.0, is_other n 1 h.1, is_other n 2 h.2) refl
-by_range (BadData n) h = rw (is_below n 256 h.0, is_other n 1 h.1) refl
-by_range (BadMachine n) h = is_below n 65536 h
-by_range (NotShared n) h = rw (is_below n 65536 h.0, is_other n 3 h.1) refl
-by_range BadPhdrs h = refl
-by_range NoDynamic h = refl
-by_range DynOutside h = refl
-by_range NoStrtab h = refl
-by_range OutsideLoad h = refl
-by_range (BadString n) h = is_tag n h
-by_range BadSoname h = refl
-by_range Unsearchable h = absurd h
 
 -- ---- the numbers fit in four bytes
 
@@ -99,22 +49,22 @@ code_small Unsearchable = omega arith
 
 pub value_small : (d : Defect) → IsInRange d → defect_value d < 2 ^ 32
 value_small NotElf h = omega arith
-value_small (TooShort n) h = omega (arith, h)
-value_small (BadClass n) h = omega (arith, h.0)
-value_small (BadData n) h = omega (arith, h.0)
-value_small (BadMachine n) h = omega (arith, h)
-value_small (NotShared n) h = omega (arith, h.0)
+value_small (TooShort n) h = omega (arith, below n 64 h)
+value_small (BadClass n) h =
+    let a = and_parts (nat_lt n 256 && not (n == 1)) (not (n == 2)) h in
+    let b = and_parts (nat_lt n 256) (not (n == 1)) a.0 in
+    omega (arith, below n 256 b.0)
+value_small (BadData n) h = omega (arith, below n 256 (and_parts (nat_lt n 256) (not (n == 1)) h).0)
+value_small (BadMachine n) h = omega (arith, below n 65536 h)
+value_small (NotShared n) h = omega (arith, below n 65536 (and_parts (nat_lt n 65536) (not (n == 3)) h).0)
 value_small BadPhdrs h = omega arith
 value_small NoDynamic h = omega arith
 value_small DynOutside h = omega arith
 value_small NoStrtab h = omega arith
 value_small OutsideLoad h = omega arith
-value_small (BadString n) (inl e) = omega (arith, e)
-value_small (BadString n) (inr (inl e)) = omega (arith, e)
-value_small (BadString n) (inr (inr (inl e))) = omega (arith, e)
-value_small (BadString n) (inr (inr (inr e))) = omega (arith, e)
+value_small (BadString n) h = tag_small n h
 value_small BadSoname h = omega arith
-value_small Unsearchable h = absurd h
+value_small Unsearchable h = absurd cc
 
 -- ---- the defect with two numbers
 
@@ -122,25 +72,25 @@ pub found_in_range : (code value : ℕ) (d : Defect) → defect_of code value �
 unfolding defect_of
 found_in_range code value d h =
     let found = find-passes (has_numbers code value) (defects_with value) d h in
-    in_range d (and_parts (defect_code d == code && defect_value d == value) (is_in_range d) found).1
+    (and_parts (defect_code d == code && defect_value d == value) (is_in_range d) found).1
 
 -- The numbers of a defect give this defect.
 pub defect_back : (d : Defect) → IsInRange d → defect_of (defect_code d) (defect_value d) ≡ Some d
 unfolding defect_of
 defect_back NotElf h = refl
-defect_back (TooShort n) h = rw (is_same n, by_range (TooShort n) h) refl
-defect_back (BadClass n) h = rw (is_same n, by_range (BadClass n) h) refl
-defect_back (BadData n) h = rw (is_same n, by_range (BadData n) h) refl
-defect_back (BadMachine n) h = rw (is_same n, by_range (BadMachine n) h) refl
-defect_back (NotShared n) h = rw (is_same n, by_range (NotShared n) h) refl
+defect_back (TooShort n) h = rw (is_same n, h) refl
+defect_back (BadClass n) h = rw (is_same n, h) refl
+defect_back (BadData n) h = rw (is_same n, h) refl
+defect_back (BadMachine n) h = rw (is_same n, h) refl
+defect_back (NotShared n) h = rw (is_same n, h) refl
 defect_back BadPhdrs h = refl
 defect_back NoDynamic h = refl
 defect_back DynOutside h = refl
 defect_back NoStrtab h = refl
 defect_back OutsideLoad h = refl
-defect_back (BadString n) h = rw (is_same n, by_range (BadString n) h) refl
+defect_back (BadString n) h = rw (is_same n, h) refl
 defect_back BadSoname h = refl
-defect_back Unsearchable h = absurd h
+defect_back Unsearchable h = absurd cc
 
 -- Only a library has the code 0.
 pub code_not_zero : (d : Defect) → IsInRange d → (defect_code d == 0) ≡ false
@@ -157,4 +107,4 @@ code_not_zero NoStrtab h = refl
 code_not_zero OutsideLoad h = refl
 code_not_zero (BadString n) h = refl
 code_not_zero BadSoname h = refl
-code_not_zero Unsearchable h = absurd h
+code_not_zero Unsearchable h = absurd cc

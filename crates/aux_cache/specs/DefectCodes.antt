@@ -1,6 +1,7 @@
 -- The two numbers of a record that say a defect: its code, and the number that it has.
-use Rattle.std.specs.Prelude.{ℕ, Bool, true, false, ◌==◌, ◌&&◌, ◌||◌, not, nat_lt, List, [], ◌∷◌, find, unwrap_or, Option}
+use Rattle.std.specs.Prelude.{ℕ, Bool, ◌==◌, ◌&&◌, List, [], ◌∷◌, find, unwrap_or, Option}
 use Rattle.lib_types.specs.Defects.{defect_number}
+use Rattle.lib_types.specs.Ranges.{is_in_range}
 use Rattle.lib_types.specs.declared.analysis.Defect.{Defect}
 use Rattle.lib_types.specs.declared.analysis.Defect.TheVariants.{NotElf, TooShort, BadClass, BadData, BadMachine, NotShared, BadPhdrs, NoDynamic, DynOutside, NoStrtab, OutsideLoad, BadString, BadSoname, Unsearchable}
 
@@ -24,17 +25,6 @@ defect_code Unsearchable = 0
 -- the number of the defect, or 0 if it has none
 abbrev pub defect_value : Defect → ℕ
 defect_value defect = unwrap_or (defect_number defect) 0
-
--- Whether the number of a defect is in its range. The tags of BadString are DT_NEEDED, DT_SONAME, DT_RPATH and DT_RUNPATH.
-abbrev pub is_in_range : Defect → Bool
-is_in_range (TooShort length) = nat_lt length 64
-is_in_range (BadClass value) = nat_lt value 256 && not (value == 1) && not (value == 2)
-is_in_range (BadData value) = nat_lt value 256 && not (value == 1)
-is_in_range (BadMachine number) = nat_lt number 65536
-is_in_range (NotShared etype) = nat_lt etype 65536 && not (etype == 3)
-is_in_range (BadString tag) = tag == 1 || tag == 14 || tag == 15 || tag == 29
-is_in_range Unsearchable = false
-is_in_range _ = true
 
 -- each defect of a file; those that have a number have this one
 abbrev pub defects_with : ℕ → List Defect

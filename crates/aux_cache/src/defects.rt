@@ -1,6 +1,6 @@
 //! The two numbers of a record that say a defect.
 ghost use Rattle.std.specs.Prelude.{◌≡◌};
-ghost use Rattle.aux_cache.specs.DefectCodes.{defect_code, defect_of, defect_value, defects_with, is_in_range};
+ghost use Rattle.aux_cache.specs.DefectCodes.{defect_code, defect_of, defect_value, defects_with};
 ghost use Rattle.lib_types.specs.Ranges.{IsInRange};
 
 use lib_types::Defect;
@@ -64,22 +64,6 @@ fn defects_with(number: u64) -> [Defect; 13]
     ]
 }
 
-// Whether the number of a defect is in its range. The tags are DT_NEEDED, DT_SONAME, DT_RPATH and DT_RUNPATH.
-fn is_in_range(defect: Defect) -> bool
-    ensures { result ≡ is_in_range defect }
-{
-    match defect {
-        Defect::TooShort { length } => length < 64,
-        Defect::BadClass { value } => value < 256 && value != 1 && value != 2,
-        Defect::BadData { value } => value < 256 && value != 1,
-        Defect::BadMachine { number } => number < 65536,
-        Defect::NotShared { etype } => etype < 65536 && etype != 3,
-        Defect::BadString { tag } => tag == 1 || tag == 14 || tag == 15 || tag == 29,
-        Defect::Unsearchable => false,
-        _ => true,
-    }
-}
-
 /// The defect with this code and this number, if its number is in its range.
 #[tactic(auto, unfolding(crate::specs::DefectCodes::defect_of))]
 pub fn defect_of(code: u32, value: u32) -> Option<Defect>
@@ -88,6 +72,6 @@ pub fn defect_of(code: u32, value: u32) -> Option<Defect>
     let value = u64::from(value);
     let defects = defects_with(value);
     defects.iter().copied().find(|defect| {
-        code_of(*defect) == code && number_of(*defect) == value && is_in_range(*defect)
+        code_of(*defect) == code && number_of(*defect) == value && defect.is_in_range()
     })
 }

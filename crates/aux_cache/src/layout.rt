@@ -35,6 +35,12 @@ impl Version {
 /// The size of the magic in bytes.
 pub const MAGIC_SIZE: usize = 24;
 
+/// The first bytes of a file of any version that is read. That of glibc 2.36 has the version 2.0.
+pub const MAGIC_START: &[u8] = b"glibc-ld.so.auxcache-1.";
+
+/// The length of `MAGIC_START`.
+pub const MAGIC_START_SIZE: usize = 23;
+
 /// The size of the header in bytes: the magic, the number of records and the length of the strings.
 pub const HEADER_SIZE: usize = 32;
 

@@ -14,6 +14,7 @@ mod writer;
 
 pub use fault::AuxFault;
 pub use gathered::GatheredStamps;
+pub use layout::{MAGIC_START, MAGIC_START_SIZE};
 pub use reader::read;
 pub use stamps::{STAMPS_MAX, Stamp, Stamps};
 pub use writer::write;

@@ -17,7 +17,7 @@ use crate::{STAMPS_MAX, Stamps};
 use byteorder::{ByteOrder, LittleEndian};
 use lib_types::NoMemory;
 use std::alloc::Global;
-use string_pool::{Pool, Texts};
+use string_pool::{Table, Texts};
 
 /// The bytes of an auxiliary cache file with these stamps.
 pub fn write(alloc: Global, stamps: &Stamps) -> Result<Vec<u8>, NoMemory>
@@ -30,7 +30,7 @@ pub fn write(alloc: Global, stamps: &Stamps) -> Result<Vec<u8>, NoMemory>
     let stamps = stamps.as_slice();
     let mut texts = Texts::with_capacity(alloc, stamps.len() + 1)?;
     let numbered = number_stamps(alloc, &mut texts, stamps)?;
-    let strings = Pool::of(alloc, texts, 0)?;
+    let strings = Table::of(alloc, texts, 0)?;
     let bytes = strings.bytes();
     let size = HEADER_SIZE + RECORD_SIZE * stamps.len() + bytes.len();
     let mut out = Vec::with_capacity(alloc, size)?;
@@ -52,7 +52,7 @@ fn put_header(out: &mut Vec<u8>, records: u32, strings: u32) -> Result<(), NoMem
 
 fn put_records(
     out: &mut Vec<u8>,
-    strings: &Pool<'_>,
+    strings: &Table<'_>,
     stamps: &[NumberedStamp<'_>],
 ) -> Result<(), NoMemory>
     requires numbers { All (HasNumber strings.now.texts) stamps.now }
@@ -69,7 +69,7 @@ fn put_records(
 #[tactic(auto, unfolding(crate::specs::AuxText::record_bytes))]
 fn put_record(
     out: &mut Vec<u8>,
-    strings: &Pool<'_>,
+    strings: &Table<'_>,
     numbered: &NumberedStamp<'_>,
 ) -> Result<(), NoMemory>
     requires number { HasNumber strings.now.texts numbered.now }

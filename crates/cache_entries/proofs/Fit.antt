@@ -25,7 +25,7 @@ use Rattle.path_walk.specs.declared.walk.Mode.TheVariants.{Full}
 use Rattle.image_tree.specs.Node.{has_no_nul}
 use Rattle.image_tree.specs.Paths.{is_path, join, root}
 use Rattle.cache_layout.specs.declared.limits.TheConstants.{ENTRIES_MAX}
-use Rattle.cache_writer.specs.declared.writer.TheConstants.{STRING_MAX}
+use Rattle.cache_layout.specs.declared.limits.TheConstants.{STRING_MAX}
 use Rattle.image_tree.specs.Tree.{Nodes, IsTree, children_of, kind_at, node_at}
 use Rattle.image_tree.specs.declared.node.Node.{Node}
 use Rattle.image_tree.specs.declared.node.Node.TheVariants as node

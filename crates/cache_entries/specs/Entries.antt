@@ -7,7 +7,7 @@ use Rattle.std.specs.Option.{is_none}
 use Rattle.std.specs.Ordering.{bool_cmp, flip_args, int_cmp, nat_cmp, on, then_cmp}
 use Rattle.std.specs.declared.cmp.Ordering.{Ordering}
 use Rattle.cache_layout.specs.declared.limits.TheConstants.{ENTRIES_MAX}
-use Rattle.cache_writer.specs.declared.writer.TheConstants.{STRING_MAX}
+use Rattle.cache_layout.specs.declared.limits.TheConstants.{STRING_MAX}
 use Rattle.lib_types.specs.Name.{is_name}
 use Rattle.hwcap_dirs.specs.Places.{is_cap}
 use Rattle.hwcap_dirs.specs.declared.kinds.Place.{Place}

@@ -7,7 +7,7 @@ ghost use Rattle.lib_types.specs.Bytes.{field};
 mod limits;
 
 use byteorder::{ByteOrder, LittleEndian};
-pub use limits::{ENTRIES_MAX, STRINGS_LIMIT};
+pub use limits::{ENTRIES_MAX, STRING_MAX, STRINGS_LIMIT};
 
 /// The magic and the version at the start of a cache.
 pub const MAGIC: &[u8] = b"glibc-ld.so.cache1.1";

@@ -15,7 +15,7 @@ pub(crate) fn joined(alloc: Global, parts: &[&[u8]]) -> Result<Vec<u8>, Fail> {
     Ok(bytes)
 }
 
-/// One library: 170 bytes.
+/// One library, with two separate strings: 170 bytes.
 pub(crate) fn one_library(alloc: Global) -> Result<Vec<u8>, Fail> {
     joined(
         alloc,
@@ -25,6 +25,21 @@ pub(crate) fn one_library(alloc: Global) -> Result<Vec<u8>, Fail> {
             b"\x03\x03\0\0\x48\0\0\0\x52\0\0\0\0\0\0\0\0\0\0\0\0\0\0\0",
             b"libz.so.1\0/usr/lib/libz.so.1\0\0\0\0",
             b"\x74\x21\xa4\xea\x01\0\0\0\0\0\0\0\0\0\0\0\x80\0\0\0\x2a\0\0\0",
+            GENERATOR,
+        ],
+    )
+}
+
+/// One library, whose name is the end of its path: 158 bytes.
+pub(crate) fn one_shared(alloc: Global) -> Result<Vec<u8>, Fail> {
+    joined(
+        alloc,
+        &[
+            b"glibc-ld.so.cache1.1",
+            b"\x01\0\0\0\x13\0\0\0\x02\0\0\0\x5c\0\0\0\0\0\0\0\0\0\0\0\0\0\0\0",
+            b"\x03\x03\0\0\x51\0\0\0\x48\0\0\0\0\0\0\0\0\0\0\0\0\0\0\0",
+            b"/usr/lib/libz.so.1\0\0",
+            b"\x74\x21\xa4\xea\x01\0\0\0\0\0\0\0\0\0\0\0\x74\0\0\0\x2a\0\0\0",
             GENERATOR,
         ],
     )

@@ -9,8 +9,8 @@ use Rattle.lib_types.proofs.Abis.{flags_small}
 use Rattle.lib_types.specs.declared.entry.Entry.{Entry}
 use Rattle.cache_layout.specs.Layout.{laid_out, number, header_fields, entry_fields}
 use Rattle.cache_layout.proofs.Fields.{Fit, reads_back}
-use Rattle.string_pool.specs.InOrder.{table_of}
-use Rattle.string_pool.proofs.InOrder.{place_of_le}
+use Rattle.string_pool.specs.SharedEnds.{shared_table}
+use Rattle.string_pool.proofs.Located.{offset_fits}
 use Rattle.cache_reader.specs.Cache as read
 use Rattle.cache_writer.specs.CacheText.{cache_text, header, entry_bytes, hwcap_of, hwcaps_names, strings, strings_bytes, strings_end, place, padding, extension_start, directory, name_bytes, generator}
 use Rattle.cache_writer.specs.Numbers.{HasOwn, AreAmong}
@@ -91,7 +91,7 @@ hwcap_small names None h = omega arith
 hwcap_small names (Some cap) h = let within : position_or_len (bytes_eq cap) names ≤ length names = prefix_len-le-length _ names in omega (arith, within)
 
 pub place_small : (es : List Entry) → IsLaidOut es → (t : List ℕ) → place es t < 2 ^ 32
-place_small es l t = let within = place_of_le (strings es) t in omega (arith, within, l.few, l.small)
+place_small es l t = let within = offset_fits (strings es) t in omega (arith, within, l.few, l.small)
 
 abbrev pub fields_of : List Entry → Entry → List ℕ
 fields_of es e = flags_of e.abi ∷ place es e.soname ∷ place es e.path ∷ 0 ∷ hwcap_of (hwcaps_names es) e.cap ∷ []
@@ -126,5 +126,5 @@ pub string_back : (es : List Entry) (t : List ℕ) → list_any (bytes_eq t) (st
 string_back es t among =
     let size : length (front es ++ table es) ≡ 48 + 24 * length es =
     length-append (front es) (table es) ∙ ap (λ n. n + length (table es)) (length_front es) ∙ ap (λ n. 48 + n) (length_parts (entry_bytes (place es) (hwcaps_names es)) 24 (size_of_entry (place es) (hwcaps_names es)) es) in
-    let joined : (front es ++ table es) ++ (table_of (strings es) ++ after_strings es) ≡ cache_text es = append_assoc (front es) (table es) (after_entries es) ∙ sym (text_is es) in
+    let joined : (front es ++ table es) ++ (shared_table (strings es) ++ after_strings es) ≡ cache_text es = append_assoc (front es) (table es) (after_entries es) ∙ sym (text_is es) in
     rw (← joined) (string_there (front es ++ table es) (after_strings es) (strings es) t (48 + 24 * length es) size among)

@@ -1,17 +1,20 @@
 -- The parts of the file, one after another.
-use Rattle.std.proofs.Common.{◌≡◌, ℕ, ◌+◌, ◌-◌, ◌*◌, ◌%◌, ◌<◌, ◌==◌, true, false, List, [], ◌∷◌, ◌++◌, length, map, take, replicate, flat_map, bytes_eq, refl, sym, ap, append_assoc}
+use Rattle.std.proofs.Common.{◌≡◌, ℕ, ◌+◌, ◌-◌, ◌*◌, ◌%◌, ◌<◌, ◌==◌, true, false, List, [], ◌∷◌, ◌++◌, length, map, replicate, flat_map, bytes_eq, refl, sym, ap, ◌∙◌, append_assoc, slice_index_or, subst, Option, IfSome}
 use Rattle.std.proofs.lemmas.List.{length-map, length-replicate}
-use Rattle.std.proofs.lemmas.List.Elements.{All-map, All-weaker}
-use Rattle.std.specs.List.{All, list_any}
+use Rattle.std.proofs.lemmas.List.Elements.{All-head, All-map, All-tail, All-weaker}
+use Rattle.std.proofs.lemmas.Option.{get_or_from_slice_get, slice_get-get_or}
+use Rattle.std.specs.List.{All, list_any, slice_get}
 use Rattle.byteorder.specs.Endian.{little_bytes}
 use Rattle.lib_types.specs.Abi.{flags_of}
 use Rattle.lib_types.specs.declared.entry.Entry.{Entry}
 use Rattle.cache_layout.specs.Layout.{extension_magic, generator_tag, names_tag}
 use Rattle.string_pool.specs.Texts.{number_of}
-use Rattle.string_pool.specs.InOrder.{Strings, table_of, place_of}
+use Rattle.string_pool.specs.InOrder.{Strings}
+use Rattle.string_pool.specs.SharedEnds.{shared_place, shared_table}
+use Rattle.string_pool.proofs.Located.{at_number}
 use Rattle.string_pool.proofs.Numbers.{number_within}
 use Rattle.cache_writer.specs.CacheText.{cache_text, header, directory, section, section_count, generator_start, names_start, generator, strings, strings_start, hwcaps_names, hwcap_of, entry_bytes, name_bytes}
-use Rattle.cache_writer.specs.Joined.{joined}
+use Rattle.cache_writer.specs.Joined.{joined, offset_bytes}
 use Rattle.cache_writer.specs.Numbers.{AreAmong}
 use Rattle.cache_writer.specs.declared.numbers.NumberedEntry.{NumberedEntry}
 
@@ -28,8 +31,8 @@ without_names out place names h = rw h (simp append_assoc)
 
 -- the fields of an entry, one after another
 pub put_fields : (s : Strings) (names : List (List ℕ)) (e : Entry) (out : List ℕ) (flags soname path hwcap : ℕ) → flags ≡ flags_of e.abi
-    → soname ≡ place_of s e.soname → path ≡ place_of s e.path → hwcap ≡ hwcap_of names e.cap
-    → out ++ (little_bytes 4 flags ++ little_bytes 4 soname ++ little_bytes 4 path ++ little_bytes 4 0 ++ little_bytes 8 hwcap) ≡ out ++ entry_bytes (place_of s) names e
+    → soname ≡ shared_place s e.soname → path ≡ shared_place s e.path → hwcap ≡ hwcap_of names e.cap
+    → out ++ (little_bytes 4 flags ++ little_bytes 4 soname ++ little_bytes 4 path ++ little_bytes 4 0 ++ little_bytes 8 hwcap) ≡ out ++ entry_bytes (shared_place s) names e
 unfolding entry_bytes
 put_fields s names e out flags soname path hwcap f k v h = rw (← f, ← k, ← v, ← h) refl
 
@@ -42,28 +45,47 @@ numbers_within texts names among =
     (All-weaker (λ text. list_any (bytes_eq text) texts ≡ true) (λ text. number_of texts text < length texts) (λ text h. number_within texts text h) names among)
 
 pub entries_are : (s : Strings) (names : List (List ℕ)) (ns : List NumberedEntry)
-    → flat_map (λ n. entry_bytes (place_of s) names n.entry.now) ns ≡ flat_map (entry_bytes (place_of s) names) (map (λ n. n.entry.now) ns)
+    → flat_map (λ n. entry_bytes (shared_place s) names n.entry.now) ns ≡ flat_map (entry_bytes (shared_place s) names) (map (λ n. n.entry.now) ns)
 entries_are s names [] = refl
-entries_are s names (n ∷ ns) = ap (λ rest. entry_bytes (place_of s) names n.entry.now ++ rest) (entries_are s names ns)
+entries_are s names (n ∷ ns) = ap (λ rest. entry_bytes (shared_place s) names n.entry.now ++ rest) (entries_are s names ns)
 
-offset_is : (s : Strings) (n : List ℕ) → little_bytes 4 (s.base + length (table_of (take (number_of s.texts n) s.texts))) ≡ name_bytes (place_of s) n
-unfolding name_bytes
-offset_is s n = refl
+-- the offset of the string with this number
+pub placed : (s : Strings) (number at : ℕ) (t : List ℕ) → number ≡ number_of s.texts t → list_any (bytes_eq t) s.texts ≡ true
+    → IfSome (slice_get s.texts number) (λ text. at ≡ shared_place s text) → at ≡ shared_place s t
+placed s number at t is among given =
+    subst (λ (o : Option (List ℕ)). IfSome o (λ text. at ≡ shared_place s text)) (ap (slice_get s.texts) is ∙ at_number s.texts t among) given
 
-offsets_are : (s : Strings) (names : List (List ℕ))
-    → flat_map (λ number. little_bytes 4 (s.base + length (table_of (take number s.texts)))) (map (number_of s.texts) names) ≡ flat_map (name_bytes (place_of s)) names
-offsets_are s [] = refl
-offsets_are s (n ∷ ns) = rw (← offset_is s n) (ap (λ rest. little_bytes 4 (s.base + length (table_of (take (number_of s.texts n) s.texts))) ++ rest) (offsets_are s ns))
+pub placed_at : (s : Strings) (number at : ℕ) → number < length s.texts → IfSome (slice_get s.texts number) (λ text. at ≡ shared_place s text) → little_bytes 4 at ≡ offset_bytes s number
+unfolding offset_bytes
+placed_at s number at within given =
+    let here : at ≡ shared_place s (slice_index_or s.texts number []) =
+    subst (λ (o : Option (List ℕ)). IfSome o (λ text. at ≡ shared_place s text)) (slice_get-get_or s.texts number [] within) given in
+    ap (little_bytes 4) here
 
-pub offsets_of : (s : Strings) (names : List (List ℕ)) (numbers : List ℕ) → numbers ≡ map (number_of s.texts) names
-    → flat_map (λ number. little_bytes 4 (s.base + length (table_of (take number s.texts)))) numbers ≡ flat_map (name_bytes (place_of s)) names
-offsets_of s names numbers are = rw are (offsets_are s names)
+-- the string with the number of a string
+there : (texts : List (List ℕ)) (n : List ℕ) → list_any (bytes_eq n) texts ≡ true → slice_index_or texts (number_of texts n) [] ≡ n
+there texts n among = get_or_from_slice_get texts (number_of texts n) n [] (at_number texts n among)
+
+offset_is : (s : Strings) (n : List ℕ) → list_any (bytes_eq n) s.texts ≡ true → offset_bytes s (number_of s.texts n) ≡ name_bytes (shared_place s) n
+unfolding name_bytes offset_bytes
+offset_is s n among = ap (λ (t : List ℕ). little_bytes 4 (shared_place s t)) (there s.texts n among)
+
+offsets_are : (s : Strings) (names : List (List ℕ)) → AreAmong s.texts names → flat_map (offset_bytes s) (map (number_of s.texts) names) ≡ flat_map (name_bytes (shared_place s)) names
+offsets_are s [] among = refl
+offsets_are s (n ∷ ns) among =
+    let P : List ℕ → Type 0 = λ text. list_any (bytes_eq text) s.texts ≡ true in
+    ap (λ (xs : List ℕ). xs ++ flat_map (offset_bytes s) (map (number_of s.texts) ns)) (offset_is s n (All-head P n ns among))
+    ∙ ap (λ (rest : List ℕ). name_bytes (shared_place s) n ++ rest) (offsets_are s ns (All-tail P n ns among))
+
+pub offsets_of : (s : Strings) (names : List (List ℕ)) (numbers : List ℕ) → AreAmong s.texts names → numbers ≡ map (number_of s.texts) names
+    → flat_map (offset_bytes s) numbers ≡ flat_map (name_bytes (shared_place s)) names
+offsets_of s names numbers among are = rw are (offsets_are s names among)
 
 pub count_entries : (ns : List NumberedEntry) → length ns ≡ length (map (λ n. n.entry.now) ns)
 count_entries ns = sym (length-map ns (λ (n : NumberedEntry). n.entry.now))
 
 pub parts_joined : (s : Strings) (names : List (List ℕ)) (es : List Entry) (out table bytes offsets : List ℕ) (count many end pad start : ℕ) → out ≡ [] → count ≡ length es → many ≡ length names
-    → table ≡ flat_map (entry_bytes (place_of s) names) es → bytes ≡ table_of s.texts → offsets ≡ flat_map (name_bytes (place_of s)) names
+    → table ≡ flat_map (entry_bytes (shared_place s) names) es → bytes ≡ shared_table s.texts → offsets ≡ flat_map (name_bytes (shared_place s)) names
     → end ≡ 48 + 24 * count + length bytes → pad ≡ (4 - end % 4) % 4 → start ≡ end + pad
     → (((((((out ++ header count (length bytes) start) ++ table) ++ bytes) ++ replicate pad 0) ++ directory start many) ++ offsets) ++ generator) ≡ joined s names es
 unfolding joined

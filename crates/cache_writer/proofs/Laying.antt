@@ -9,10 +9,12 @@ use Rattle.lib_types.specs.Name.{is_name}
 use Rattle.lib_types.specs.declared.name.TheConstants.{NAME_MAX}
 use Rattle.string_pool.specs.Distinct.{distinct}
 use Rattle.string_pool.specs.InOrder.{table_of}
+use Rattle.string_pool.specs.SharedEnds.{shared_table}
 use Rattle.string_pool.proofs.WithoutRepeats.{distinct_append}
 use Rattle.string_pool.proofs.InOrder.{length_table_insert}
+use Rattle.string_pool.proofs.Located.{table_fits}
 use Rattle.cache_layout.specs.declared.limits.TheConstants.{ENTRIES_MAX, STRINGS_LIMIT}
-use Rattle.cache_writer.specs.declared.writer.TheConstants.{STRING_MAX}
+use Rattle.cache_layout.specs.declared.limits.TheConstants.{STRING_MAX}
 use Rattle.cache_writer.specs.CacheText.{hwcaps_names, own_strings, strings}
 use Rattle.cache_writer.specs.Numbers.{HasOwn, HasNumbers, AreAmong}
 use Rattle.cache_writer.specs.declared.numbers.NumberedEntry.{NumberedEntry}
@@ -73,6 +75,10 @@ module _ (es entries : List Entry) (names own all : List (List ℕ)) (ns : List 
   pub small : length (table_of all) < STRINGS_LIMIT
   small = rw gathered (small_strings es few (short_sonames es (rw same named)) (rw same paths) (short_names es (rw same caps)))
 
+  -- so is the size of those that are written
+  pub fits : length (shared_table all) < STRINGS_LIMIT
+  fits = omega (arith, small, table_fits all)
+
   -- adding the names doesn't change the index of a string
   pub kept : All (HasNumbers own) ns → All (HasNumbers all) ns
   kept numbers = rw second (All-weaker (HasNumbers own) (HasNumbers (with_all own names)) (λ n h. numbers_kept own names n h) ns numbers)
@@ -83,7 +89,7 @@ module _ (es entries : List Entry) (names own all : List (List ℕ)) (ns : List 
       made : IsLaidOut es
       made = record {
         few = few;
-        small = rw gathered at small;
+        small = rw gathered at fits;
         own = rw gathered at (rw listed at (own_among all ns (kept numbers)));
         names = rw (gathered, is) at among;
       }

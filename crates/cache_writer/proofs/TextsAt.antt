@@ -4,8 +4,8 @@ use Rattle.std.proofs.lemmas.List.{length-drop, take-append-drop}
 use Rattle.std.specs.List.{list_any, before_first}
 use Rattle.lib_types.proofs.OneSize.{before_nul, following}
 use Rattle.string_pool.specs.Texts.{with_nul}
-use Rattle.string_pool.specs.InOrder.{table_of, offset_of}
-use Rattle.string_pool.proofs.InOrder.{located, place_of_le}
+use Rattle.string_pool.specs.SharedEnds.{shared_offset, shared_table}
+use Rattle.string_pool.proofs.Located.{offset_fits, string_located}
 use Rattle.cache_reader.specs.Cache.{is_nul, text_at, is_ended}
 use Rattle.image_tree.specs.Node.{has_no_nul}
 
@@ -21,16 +21,16 @@ drop_in (suc k) (x ∷ xs) ys h = drop_in k xs ys (omega arith)
 
 -- a string of the string table is at its offset
 pub string_there : (front rest : List ℕ) (ts : List (List ℕ)) (t : List ℕ) (base : ℕ) → length front ≡ base → list_any (bytes_eq t) ts ≡ true
-    → HasText (front ++ (table_of ts ++ rest)) (base + offset_of ts t) t
+    → HasText (front ++ (shared_table ts ++ rest)) (base + shared_offset ts t) t
 string_there front rest ts t base size among =
-    let at = offset_of ts t in
-    let table = table_of ts in
+    let at = shared_offset ts t in
+    let table = shared_table ts in
     let tail = drop (length t + 1) (drop at table) in
-    let parts : drop at table ≡ with_nul t ++ tail = sym (take-append-drop (length t + 1) (drop at table)) ∙ ap (λ xs. xs ++ tail) (located ts t among) in
+    let parts : drop at table ≡ with_nul t ++ tail = sym (take-append-drop (length t + 1) (drop at table)) ∙ ap (λ xs. xs ++ tail) (string_located ts t among) in
     record {
       rest = tail ++ rest;
       there =
-          following front (table ++ rest) base at size ∙ drop_in at table rest (place_of_le ts t) ∙ ap (λ xs. xs ++ rest) parts
+          following front (table ++ rest) base at size ∙ drop_in at table rest (offset_fits ts t) ∙ ap (λ xs. xs ++ rest) parts
           ∙ append_assoc (with_nul t) tail rest ∙ append_assoc t (0 ∷ []) (tail ++ rest);
     }
 

@@ -11,7 +11,7 @@ use Rattle.byteorder.specs.Endian.{little_bytes}
 use Rattle.lib_types.specs.declared.entry.Entry.{Entry}
 use Rattle.lib_types.specs.Abi.{flags_of}
 use Rattle.string_pool.specs.Distinct.{distinct}
-use Rattle.string_pool.specs.InOrder.{table_of, place_of}
+use Rattle.string_pool.specs.SharedEnds.{shared_place, shared_table}
 use Rattle.cache_layout.specs.Layout.{laid_out, magic, header_fields, header_size, little_endian, entry_fields, entry_size, named_hwcap, extension_magic, directory_fields, directory_size, section_fields, section_size, generator_tag, names_tag}
 
 -- ---- the hwcaps names and the strings
@@ -28,7 +28,7 @@ hwcaps_names entries = fold with_name [] entries
 abbrev pub own_strings : Entry → List (List ℕ)
 own_strings entry = entry.soname ∷ entry.path ∷ []
 
--- the strings of a cache, each once: first those of the entries, then the hwcaps names
+-- the strings of a cache, each once, in order of first use: first those of the entries, then the hwcaps names
 abbrev pub strings : List Entry → List (List ℕ)
 strings entries = distinct (flat_map own_strings entries ++ hwcaps_names entries)
 
@@ -36,12 +36,13 @@ strings entries = distinct (flat_map own_strings entries ++ hwcaps_names entries
 abbrev pub strings_start : List Entry → ℕ
 strings_start entries = header_size + entry_size * length entries
 
--- the bytes of the strings, one after another; below, the offset of a string in the file
+-- The bytes of the strings: a string that is the end of another one has no bytes of its own. Below, the offset of a string in the
+-- file.
 abbrev pub strings_bytes : List Entry → List ℕ
-strings_bytes entries = table_of (strings entries)
+strings_bytes entries = shared_table (strings entries)
 
 abbrev pub place : List Entry → List ℕ → ℕ
-place entries string = place_of (record { base = strings_start entries; texts = strings entries }) string
+place entries string = shared_place (record { base = strings_start entries; texts = strings entries }) string
 
 abbrev pub strings_end : List Entry → ℕ
 strings_end entries = strings_start entries + length (strings_bytes entries)

@@ -5,4 +5,4 @@ mod names;
 mod numbers;
 mod writer;
 
-pub use writer::{STRING_MAX, write};
+pub use writer::write;

@@ -11,7 +11,7 @@ use crate::names::Names;
 use cache_layout::ENTRIES_MAX;
 use lib_types::{Entry, NoMemory};
 use std::alloc::Global;
-use string_pool::Texts;
+use string_pool::Pool;
 
 /// An entry, and the indexes of its soname and its path in the list of strings.
 #[derive(Drop)]
@@ -24,7 +24,7 @@ pub struct NumberedEntry<'a> {
 /// Adds the strings of these entries to the list. Returns the entries with the indexes of their strings.
 pub fn number_entries<'a>(
     alloc: Global,
-    texts: &mut Texts<'a>,
+    texts: &mut Pool<'a>,
     entries: &'a [Entry],
 ) -> Result<Vec<NumberedEntry<'a>>, NoMemory>
     requires empty { texts.old ≡ [] }
@@ -40,7 +40,7 @@ pub fn number_entries<'a>(
     Ok(numbered)
 }
 
-fn number_entry<'a>(texts: &mut Texts<'a>, entry: &'a Entry) -> Result<NumberedEntry<'a>, NoMemory>
+fn number_entry<'a>(texts: &mut Pool<'a>, entry: &'a Entry) -> Result<NumberedEntry<'a>, NoMemory>
     requires { length texts.old < 2 ^ 31 }
     ensures texts { OnOk result (texts.new ≡ fold (insert_key bytes_eq) texts.old (own_strings entry.now)) }
     ensures entry { IfOk result (λ numbered. numbered.entry.now ≡ entry.now) }
@@ -58,7 +58,7 @@ fn number_entry<'a>(texts: &mut Texts<'a>, entry: &'a Entry) -> Result<NumberedE
 /// Adds the hwcaps names to the list of strings. Returns their indexes.
 pub fn number_names<'a>(
     alloc: Global,
-    texts: &mut Texts<'a>,
+    texts: &mut Pool<'a>,
     names: &Names<'a>,
 ) -> Result<Vec<u32>, NoMemory>
     requires { length texts.old + length names.now < 2 ^ 31 }

@@ -1,15 +1,14 @@
 //! The bytes of a cache.
-ghost use Rattle.std.specs.Prelude.{◌≡◌, ◌+◌, ◌*◌, ◌++◌, ◌<◌, ◌≤◌, ℕ, true, length, take, All, IfOk, IfSome, None, OnOk, map, flat_map, replicate};
+ghost use Rattle.std.specs.Prelude.{◌≡◌, ◌+◌, ◌*◌, ◌++◌, ◌<◌, ◌≤◌, ℕ, true, length, All, IfOk, IfSome, None, OnOk, map, flat_map, replicate};
 ghost use Rattle.byteorder.specs.Endian.{little_bytes};
 ghost use Rattle.lib_types.specs.Abi.{flags_of};
 ghost use Rattle.lib_types.specs.Name.{is_name};
 ghost use Rattle.string_pool.specs.Texts.{number_of};
-ghost use Rattle.string_pool.specs.InOrder.{table_of, place_of};
-ghost use Rattle.cache_layout.specs.declared.limits.TheConstants.{ENTRIES_MAX, STRINGS_LIMIT};
-ghost use Rattle.cache_writer.specs.declared.writer.TheConstants.{STRING_MAX};
+ghost use Rattle.string_pool.specs.SharedEnds.{shared_place, shared_table};
+ghost use Rattle.cache_layout.specs.declared.limits.TheConstants.{ENTRIES_MAX, STRINGS_LIMIT, STRING_MAX};
 ghost use Rattle.cache_writer.specs.CacheText.{cache_text, header, hwcap_of, entry_bytes, hwcaps_names, directory, section, section_count};
 ghost use Rattle.cache_writer.specs.Numbers.{AreAmong, HasNumbers};
-ghost use Rattle.cache_writer.specs.Joined.{joined};
+ghost use Rattle.cache_writer.specs.Joined.{joined, offset_bytes};
 ghost use Rattle.image_tree.specs.Node.{has_no_nul};
 ghost use Rattle.cache_writer.specs.ReadBack.{as_read};
 ghost use Rattle.cache_reader.specs.Cache.{defect, read};
@@ -23,11 +22,7 @@ use cache_layout::{
 };
 use lib_types::{Abi, Entries, Entry, NAME_MAX, NoMemory};
 use std::alloc::Global;
-use string_pool::{Pool, Texts};
-
-/// The maximum length of a path in bytes. A path is a directory's normalized path and a file name. With this limit the strings of
-/// `ENTRIES_MAX` entries have fewer than `STRINGS_LIMIT` bytes, so that all offsets in a cache fit in 4 bytes.
-pub const STRING_MAX: usize = 4700;
+use string_pool::{Pool, Sealed};
 
 // The bit that marks a hwcap as the index of a hwcaps name.
 const NAMED: u64 = 1 << 62;
@@ -48,26 +43,26 @@ pub fn write(alloc: Global, entries: &Entries) -> Result<Vec<u8>, NoMemory>
 {
     let entries = entries.as_slice();
     let names = Names::of(alloc, entries)?;
-    let mut texts = Texts::with_capacity(alloc, 2 * entries.len())?;
-    let numbered = number_entries(alloc, &mut texts, entries)?;
-    let numbers = number_names(alloc, &mut texts, &names)?;
+    let mut strings = Pool::with_capacity(alloc, 2 * entries.len())?;
+    let numbered = number_entries(alloc, &mut strings, entries)?;
+    let numbers = number_names(alloc, &mut strings, &names)?;
     let start = HEADER_SIZE + ENTRY_SIZE * entries.len();
-    let strings = Pool::of(alloc, texts, start as u32)?;
-    join(alloc, &strings, &names, &numbered, &numbers)
+    let sealed = strings.seal(alloc, start as u32)?;
+    join(alloc, &sealed, &names, &numbered, &numbers)
 }
 
 // The bytes of a file with these strings, entries and hwcaps names. `numbers` are the indexes of the names in the list of strings.
 #[tactic(auto, unfolding(crate::specs::CacheText::generator))]
 fn join(
     alloc: Global,
-    strings: &Pool<'_>,
+    strings: &Sealed<'_>,
     names: &Names<'_>,
     entries: &[NumberedEntry<'_>],
     numbers: &[u32],
 ) -> Result<Vec<u8>, NoMemory>
     requires entries { length entries.now ≤ ENTRIES_MAX }
     requires names { length names.now ≤ ENTRIES_MAX }
-    requires strings { length (table_of strings.now.texts) < STRINGS_LIMIT }
+    requires strings { length (shared_table strings.now.texts) < STRINGS_LIMIT }
     requires own { All (HasNumbers strings.now.texts) entries.now }
     requires among { AreAmong strings.now.texts names.now }
     requires numbers { numbers.now ≡ map (number_of strings.now.texts) names.now }
@@ -96,13 +91,13 @@ fn join(
 
 fn put_entries(
     out: &mut Vec<u8>,
-    strings: &Pool<'_>,
+    strings: &Sealed<'_>,
     names: &Names<'_>,
     entries: &[NumberedEntry<'_>],
 ) -> Result<(), NoMemory>
     requires names { length names.now ≤ ENTRIES_MAX }
     requires own { All (HasNumbers strings.now.texts) entries.now }
-    ensures { OnOk result (out.new.items ≡ out.old.items ++ flat_map (λ e. entry_bytes (place_of strings.now) names.now e.entry.now) entries.now) }
+    ensures { OnOk result (out.new.items ≡ out.old.items ++ flat_map (λ e. entry_bytes (shared_place strings.now) names.now e.entry.now) entries.now) }
 {
     for entry in entries {
         put_entry(out, strings, names, entry)?;
@@ -112,13 +107,13 @@ fn put_entries(
 
 fn put_entry(
     out: &mut Vec<u8>,
-    strings: &Pool<'_>,
+    strings: &Sealed<'_>,
     names: &Names<'_>,
     numbered: &NumberedEntry<'_>,
 ) -> Result<(), NoMemory>
     requires names { length names.now ≤ ENTRIES_MAX }
     requires own { HasNumbers strings.now.texts numbered.now }
-    ensures { OnOk result (out.new.items ≡ out.old.items ++ entry_bytes (place_of strings.now) names.now numbered.now.entry.now) }
+    ensures { OnOk result (out.new.items ≡ out.old.items ++ entry_bytes (shared_place strings.now) names.now numbered.now.entry.now) }
 {
     let entry = numbered.entry;
     let soname = strings.offset(numbered.soname);
@@ -156,14 +151,21 @@ fn hwcap(names: &Names<'_>, entry: &Entry) -> u64
 }
 
 // Writes the offsets of the strings with these indexes.
-fn put_offsets(out: &mut Vec<u8>, strings: &Pool<'_>, numbers: &[u32]) -> Result<(), NoMemory>
+fn put_offsets(out: &mut Vec<u8>, strings: &Sealed<'_>, numbers: &[u32]) -> Result<(), NoMemory>
     requires { All (λ number. number < length strings.now.texts) numbers.now }
-    ensures { OnOk result (out.new.items ≡ out.old.items ++ flat_map (λ number. little_bytes 4 (strings.now.base + length (table_of (take number strings.now.texts)))) numbers.now) }
+    ensures { OnOk result (out.new.items ≡ out.old.items ++ flat_map (offset_bytes strings.now) numbers.now) }
 {
     for number in numbers {
-        put_u32(out, strings.offset(*number))?;
+        put_offset(out, strings, *number)?;
     }
     Ok(())
+}
+
+fn put_offset(out: &mut Vec<u8>, strings: &Sealed<'_>, number: u32) -> Result<(), NoMemory>
+    requires { number < length strings.now.texts }
+    ensures { OnOk result (out.new.items ≡ out.old.items ++ offset_bytes strings.now number) }
+{
+    put_u32(out, strings.offset(number))
 }
 
 #[tactic(auto, unfolding(crate::specs::CacheText::header))]

@@ -4,4 +4,4 @@
 mod command;
 
 pub use command::{refuse_arguments, run_command};
-pub use command_status::Status;
+pub use command_status::{ScriptKind, Status};

@@ -9,7 +9,7 @@ mod setting;
 
 pub use libraries::{Held, all, library, libz, libz_held, nameless};
 pub use narrow_sink::NarrowSink;
-pub use samples::{EMPTY_CACHE, NO_STAMPS, ONE_CACHE, THREE_CACHE};
+pub use samples::{EMPTY_CACHE, NO_STAMPS, ONE_CACHE, ONE_SEPARATE, THREE_CACHE};
 pub use setting::{
     Devices, LIBZ_KEY, LIBZ_MANIFEST, LIBZ_REPORT, OLD, Pairs, Setting, Wanted, copy, done, has,
     image, is_left, make_devices, number, one, refused, replacing_calls, run_into, run_script,

@@ -4,13 +4,13 @@ use command_runs_fixture::{
     Devices, EMPTY_CACHE, Held, OLD, all, has, image, make_devices, run_script, run_update,
 };
 use lib_types::Failed;
-use mtree_manifest::TEXT_MAX;
+use mtree_manifest::MANIFEST_MAX;
 use std::alloc::Global;
 use std::process::Abort;
 use std::test::Fail;
 use tree_face::{Disk, MemSource, Slot, Source};
 
-const MOST_ENTRIES: usize = 131072;
+const MOST_ENTRIES: usize = 262144;
 
 const MOST_NODES: usize = 1048576;
 
@@ -90,13 +90,13 @@ fn entries_of_a_cache(rt: HostRuntime) -> Result<(), Fail> {
     let alloc = rt.alloc();
     let held = [Held::Nameless("k")];
     let most = numbered(alloc, "./usr/lib/lib", MOST_ENTRIES, ".so contents=k\n")?;
-    let report = "131072 libs, 0 links, 131072 files opened\n";
+    let report = "262144 libs, 0 links, 262144 files opened\n";
     let sizes = assert_done(&rt, alloc, &most, &held, report)?;
-    // an entry has 24 bytes, a soname 14 and a path 23; the strings are padded to a multiple of four
-    assert!(rt; sizes == (most.len(), 48 + MOST_ENTRIES * (24 + 14 + 23) + 24 + 42));
+    // an entry has 24 bytes and a path 23, whose end is the soname
+    assert!(rt; sizes == (most.len(), 48 + MOST_ENTRIES * (24 + 23) + 24 + 42));
     let more = numbered(alloc, "./usr/lib/lib", MOST_ENTRIES + 1, ".so contents=k\n")?;
-    let want = Status::TooMany { count: 131073 };
-    assert_refused(&rt, alloc, &more, &held, want, "fault: TooMany 131073\n")
+    let want = Status::TooMany { count: 262145 };
+    assert_refused(&rt, alloc, &more, &held, want, "fault: TooMany 262145\n")
 }
 
 // A library for which a link is planned, among directories.
@@ -159,7 +159,7 @@ fn bytes_of_a_manifest(rt: HostRuntime) -> Result<(), Fail> {
     let report = "link: /usr/lib/libk.so.1 -> libk.so.1.2\n1 libs, 1 links, 1 files opened\n";
     let most = expanding(alloc, 0)?;
     let (size, _) = assert_done(&rt, alloc, &most, &held, report)?;
-    assert!(rt; size == TEXT_MAX);
+    assert!(rt; size == MANIFEST_MAX);
     let more = expanding(alloc, 1)?;
     let want = Status::TooLarge {
         nodes: 68551,

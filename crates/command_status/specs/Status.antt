@@ -1,5 +1,5 @@
 -- The statuses: the status of each fault, its exit status, and its fault line on the output.
-use Rattle.std.specs.Prelude.{◌≡◌, ◌⊎◌, ℕ, List, [], ◌++◌, codes, Option, Some, None}
+use Rattle.std.specs.Prelude.{◌≡◌, ◌⊎◌, ℕ, List, [], ◌++◌, codes, Option, Some, None, unwrap_or}
 use Rattle.std.specs.Fmt.{decimal}
 use Rattle.lib_types.specs.Counts.{HasRisen}
 use Rattle.manifest_words.specs.declared.fault.LineKind.{LineKind}
@@ -14,6 +14,8 @@ use Rattle.image_session.specs.declared.fault.LoadFault.{LoadFault}
 use Rattle.image_session.specs.declared.fault.LoadFault.TheVariants as loading
 use Rattle.ldconfig_core.specs.declared.fault.UpdateFault.{UpdateFault}
 use Rattle.ldconfig_core.specs.declared.fault.UpdateFault.TheVariants as updating
+use Rattle.ldd_resolve.specs.declared.kinds.ProgramFault.{ProgramFault}
+use Rattle.ldd_resolve.specs.declared.kinds.ProgramFault.TheVariants as programs
 use Rattle.ldd_resolve.specs.declared.kinds.ResolveFault.{ResolveFault}
 use Rattle.ldd_resolve.specs.declared.kinds.ResolveFault.TheVariants as resolving
 use Rattle.command_status.specs.CacheFault.{cache_fault}
@@ -42,6 +44,10 @@ of_resolve resolving.NoProgram = NoProgram
 of_resolve (resolving.BadProgram defect) = BadProgram defect
 of_resolve resolving.StoreFault = StoreFault
 of_resolve resolving.NoMemory = NoMemory
+
+abbrev pub of_program : ProgramFault → Status
+of_program programs.NoProgram = NoProgram
+of_program (programs.BadProgram defect) = BadProgram defect
 
 abbrev pub kind_text : LineKind → List ℕ
 kind_text kinds.BadLine = codes "BadLine"
@@ -109,6 +115,10 @@ code_of status = (row_of status).code
 
 abbrev pub fault_line : Status → Option (List ℕ)
 fault_line status = (row_of status).fault
+
+-- the fault line, or nothing if the status has none
+abbrev pub said : Status → List ℕ
+said status = unwrap_or (fault_line status) []
 
 -- ---- what is written
 

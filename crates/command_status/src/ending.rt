@@ -2,12 +2,12 @@
 ghost use Rattle.std.specs.Prelude.{◌≡◌};
 ghost use Rattle.std.specs.Result.{result_map_both};
 ghost use Rattle.tree_face.specs.Stream.{TakesAll};
-ghost use Rattle.command_status.specs.Ending.{AnswerText, EndsAs};
+ghost use Rattle.command_status.specs.Ending.{AnswerText, EndsAs, answered, first_status};
 
 use crate::output::put_fault_line;
 use crate::status::Status;
 use image_session::LoadFault;
-use ldd_resolve::ResolveFault;
+use ldd_resolve::{ProgramFault, ResolveFault};
 use lib_types::Failed;
 use tree_face::Sink;
 
@@ -22,6 +22,10 @@ pub trait Answer {
     /// Whether something that was asked for is missing.
     fn is_missing(&self) -> bool
         ensures { result ≡ (answer self.now).missing };
+
+    /// Why there is no program at a path, for the first such path of those that were asked for.
+    fn fault(&self) -> Option<ProgramFault>
+        ensures { result ≡ (answer self.now).fault };
 }
 
 /// Why a command has no answer.
@@ -39,7 +43,33 @@ pub trait Fault {
     ghost not_usage: { (fault : Self) → status_of fault ≡ statuses.Usage → ⊥ };
 }
 
-/// Ends a command that only asks: writes the answer, or the fault line of the error.
+// The status of the fault, or else the other status.
+#[tactic(auto, using(crate::specs::Usage::program_no_usage))]
+fn first_status(fault: Option<ProgramFault>, other: Status) -> Status
+    ensures status { result ≡ first_status fault other }
+    ensures no_usage { result ≡ Status.Usage → other ≡ Status.Usage }
+{
+    match fault {
+        Some(fault) => Status::from(fault),
+        None => other,
+    }
+}
+
+// The status of an answer that is written.
+fn status_of<A: Answer>(answer: &A) -> Status
+    ensures status { result ≡ answered (A.answer answer.now) }
+    ensures no_usage { result ≡ Status.Usage → ⊥ }
+{
+    let other = if answer.is_missing() {
+        Status::Missing
+    } else {
+        Status::Done
+    };
+    first_status(answer.fault(), other)
+}
+
+/// Ends a command that only asks: writes the answer, or the fault line of the error. If the output fails, the status is OutputFault, unless
+/// the answer has a fault.
 pub fn end<A: Answer + Drop, F: Fault, O: Sink>(answered: Result<A, F>, out: &mut O) -> Status
     ensures ends { EndsAs (result_map_both A.answer F.status_of answered) result (O.state out.old) (O.state out.new) }
     ensures no_usage { result ≡ Status.Usage → ⊥ }
@@ -53,13 +83,9 @@ pub fn end<A: Answer + Drop, F: Fault, O: Sink>(answered: Result<A, F>, out: &mu
         }
     };
     if answer.write(out).is_err() {
-        return Status::OutputFault;
+        return first_status(answer.fault(), Status::OutputFault);
     }
-    if answer.is_missing() {
-        Status::Missing
-    } else {
-        Status::Done
-    }
+    status_of(&answer)
 }
 
 impl Fault for LoadFault {

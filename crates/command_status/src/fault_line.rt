@@ -1,5 +1,5 @@
 //! Fault lines, which take no memory.
-ghost use Rattle.std.specs.Prelude.{◌≡◌, ◌++◌, codes, Some};
+ghost use Rattle.std.specs.Prelude.{◌≡◌, ◌++◌, codes, Some, OnOk};
 ghost use Rattle.std.specs.Fmt.{decimal};
 ghost use Rattle.lib_types.specs.Defects.{number_text};
 ghost use Rattle.tree_face.specs.Stream.{TakesAll};
@@ -10,7 +10,7 @@ ghost use Rattle.command_status.specs.Status.{kind_text, manifest_text, script_k
 
 use crate::status::ScriptKind;
 use cache_reader::CacheDefect;
-use lib_types::{Defect, Failed};
+use lib_types::{Defect, Failed, NoMemory};
 use mtree_manifest::{LineKind, ManifestFault};
 use tree_face::{Sink, put_all};
 
@@ -170,4 +170,26 @@ pub(crate) fn put_line<O: Sink>(out: &mut O, line: &FaultLine) -> Result<(), Fai
     put_front(out, line)?;
     put_number(out, line.number)?;
     put_all(out, line.back)
+}
+
+// Adds a number after a space, if there is one.
+fn add_number(text: &mut Vec<u8>, number: Option<u64>) -> Result<(), NoMemory>
+    ensures { OnOk result (text.new.items ≡ text.old.items ++ number_text number) }
+{
+    if let Some(number) = number {
+        text.push(b' ')?;
+        text.extend_from_slice(itoa::Buffer::new().format(number).as_bytes())?;
+    }
+    Ok(())
+}
+
+/// Adds a line to a text.
+pub(crate) fn add_line(text: &mut Vec<u8>, line: &FaultLine) -> Result<(), NoMemory>
+    ensures { OnOk result (text.new.items ≡ text.old.items ++ line_bytes line.now) }
+{
+    text.extend_from_slice(line.lead)?;
+    text.extend_from_slice(line.front)?;
+    add_number(text, line.number)?;
+    text.extend_from_slice(line.back)?;
+    Ok(())
 }

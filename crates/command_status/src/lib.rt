@@ -7,5 +7,5 @@ mod output;
 mod status;
 
 pub use ending::{Answer, Fault, end};
-pub use output::put_fault_line;
+pub use output::{add_fault_line, put_fault_line};
 pub use status::{ScriptKind, Status};

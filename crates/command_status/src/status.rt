@@ -3,7 +3,7 @@ ghost use Rattle.std.specs.Prelude.{◌≡◌};
 ghost use Rattle.std.specs.Option.{option_map};
 ghost use Rattle.command_status.specs.FaultLine.{line_bytes};
 ghost use Rattle.command_status.specs.Row.{row_bytes};
-ghost use Rattle.command_status.specs.Status.{code_of, fault_line, of_load, of_resolve, of_update, row_of, saying, silent};
+ghost use Rattle.command_status.specs.Status.{code_of, fault_line, of_load, of_program, of_resolve, of_update, row_of, saying, silent};
 
 use crate::fault_line::{
     FaultLine, cache_line, manifest_line, numbered, program_line, script_line, unnumbered,
@@ -11,7 +11,7 @@ use crate::fault_line::{
 use cache_reader::CacheDefect;
 use image_session::LoadFault;
 use ldconfig_core::UpdateFault;
-use ldd_resolve::ResolveFault;
+use ldd_resolve::{ProgramFault, ResolveFault};
 use lib_types::Defect;
 use mtree_manifest::{LineKind, ManifestFault};
 
@@ -169,6 +169,17 @@ impl From<ResolveFault> for Status {
             ResolveFault::BadProgram(defect) => Status::BadProgram(defect),
             ResolveFault::StoreFault => Status::StoreFault,
             ResolveFault::NoMemory => Status::NoMemory,
+        }
+    }
+}
+
+impl From<ProgramFault> for Status {
+    ghost from_gives = { λ fault status. status ≡ of_program fault };
+
+    fn from(fault: ProgramFault) -> Self {
+        match fault {
+            ProgramFault::NoProgram => Status::NoProgram,
+            ProgramFault::BadProgram(defect) => Status::BadProgram(defect),
         }
     }
 }

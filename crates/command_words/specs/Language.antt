@@ -1,7 +1,7 @@
 -- Which arguments each command takes. They are read by `clap`, whose definitions say what is refused and what is found.
 use Rattle.std.specs.Prelude.{◌||◌, ℕ, true, List, [], ◌∷◌, codes, Option, Some, None, if◌then◌else◌}
 use Rattle.std.specs.Str.{byte, bytes_eq}
-use Rattle.clap.specs.declared.builder.action.ArgAction.TheVariants.{SetTrue}
+use Rattle.clap.specs.declared.builder.action.ArgAction.TheVariants.{Append, SetTrue}
 use Rattle.clap.specs.declared.builder.value_parser.ValueParser.TheVariants.{NonEmptyString}
 use Rattle.clap.specs.Words.{App, Rule, new_app, new_rule, with_rule}
 use Rattle.command_words.specs.declared.verb.Verb.{Verb}
@@ -35,6 +35,10 @@ help_in _ = None
 abbrev pub word_rule : List ℕ → Rule
 word_rule id = record (new_rule id) { required = true }
 
+-- one or more, without a name
+abbrev pub words_rule : List ℕ → Rule
+words_rule id = record (word_rule id) { action = Some Append }
+
 -- `--ID VALUE` or `--ID=VALUE`, once at most
 abbrev pub option_rule : List ℕ → Rule
 option_rule id = record (new_rule id) { long = Some id }
@@ -61,9 +65,9 @@ asking = with_rule without_requests root_rule
 abbrev pub tagged : App
 tagged = with_rule without_requests (option_rule (codes "tag"))
 
--- a program for processors with some hwcaps names
+-- programs for processors with some hwcaps names
 abbrev pub searched : App
-searched = with_rule (with_rule asking (word_rule (codes "PATH"))) (option_rule (codes "caps"))
+searched = with_rule (with_rule asking (words_rule (codes "PATH"))) (option_rule (codes "caps"))
 
 -- the options of a command, and the arguments that it needs
 unfoldable pub app : Verb → App

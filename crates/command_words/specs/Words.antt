@@ -1,7 +1,8 @@
 -- The command of arguments.
 use Rattle.std.specs.Prelude.{◌≡◌, ◌==◌, ◌&&◌, nat_le, ⊤, ℕ, Bool, false, not, List, [], codes, length, Option, Some, None, Result, Ok, Err, option_map, option_and_then, unwrap_or, if◌then◌else◌}
+use Rattle.std.specs.List.{list_all}
 use Rattle.std.specs.Option.{option_map_or}
-use Rattle.clap.specs.Words.{Row, fault_of, first_of, matches_of, takes}
+use Rattle.clap.specs.Words.{Row, all_of, fault_of, first_of, matches_of, takes}
 use Rattle.lib_types.specs.Abi.{abi_of_word}
 use Rattle.lib_types.specs.declared.abi.Abi.{Abi}
 use Rattle.command_words.specs.Language.{app, verb_in}
@@ -52,10 +53,16 @@ lookup_by found = option_and_then (λ name. option_and_then (λ abi. option_map 
 abbrev pub secure_by : List Row → Bool
 secure_by found = option_map_or is_true (first_of (codes "secure") found) false
 
+-- all values of an argument, in order; None if one of them is not a value
+abbrev pub values_by : List ℕ → List Row → Option (List (List ℕ))
+values_by id found =
+    let texts = unwrap_or (all_of id found) [] in
+    if list_all is_value texts then Some texts else None
+
 abbrev pub resolve_by : List Row → Option Resolve
-resolve_by found = option_and_then (λ path. option_and_then (λ caps. option_and_then (λ library_path. option_map (λ platform.
-    record { path = path; caps = caps; library_path = library_path; platform = platform; secure = secure_by found })
-    (value_by (codes "platform") [] found)) (value_by (codes "library-path") [] found)) (caps_by found)) (value_by (codes "PATH") [] found)
+resolve_by found = option_and_then (λ paths. option_and_then (λ caps. option_and_then (λ library_path. option_map (λ platform.
+    record { paths = paths; caps = caps; library_path = library_path; platform = platform; secure = secure_by found })
+    (value_by (codes "platform") [] found)) (value_by (codes "library-path") [] found)) (caps_by found)) (values_by (codes "PATH") found)
 
 -- the command with these values, if all of them are valid
 abbrev pub command_by : Verb → List Row → Option Command

@@ -1,7 +1,7 @@
 //! The arguments of each command, as `clap` reads them.
 ghost use Rattle.std.specs.Prelude.{◌≡◌, false, IfOk};
 ghost use Rattle.clap.specs.Words.{app_of, rule_of, with_rule};
-ghost use Rattle.command_words.specs.Language.{app, asking, flag_rule, option_rule, root_rule, searched, tagged, without_requests, word_rule};
+ghost use Rattle.command_words.specs.Language.{app, asking, flag_rule, option_rule, root_rule, searched, tagged, without_requests, word_rule, words_rule};
 
 use crate::verb::Verb;
 use clap::builder::ValueParser;
@@ -14,6 +14,14 @@ fn word<'a>(alloc: Global, id: &'a str) -> Arg<'a>
     ensures local { result.global ≡ false }
 {
     Arg::new(alloc, id).required(true)
+}
+
+// One argument or more, without a name.
+fn words<'a>(alloc: Global, id: &'a str) -> Arg<'a>
+    ensures rule { rule_of result ≡ words_rule id.entry.now }
+    ensures local { result.global ≡ false }
+{
+    word(alloc, id).action(ArgAction::Append)
 }
 
 // An option with one value.
@@ -90,11 +98,11 @@ fn lookup<'a>(alloc: Global) -> Result<Command<'a>, AllocError>
     with(of_abi, option(alloc, "caps"))
 }
 
-// A program for processors with some hwcaps names.
+// Programs for processors with some hwcaps names.
 fn searched<'a>(alloc: Global) -> Result<Command<'a>, AllocError>
     ensures { IfOk result (λ c. app_of c ≡ searched) }
 {
-    let named = with(asking(alloc)?, word(alloc, "PATH"))?;
+    let named = with(asking(alloc)?, words(alloc, "PATH"))?;
     with(named, option(alloc, "caps"))
 }
 

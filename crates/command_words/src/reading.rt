@@ -1,9 +1,11 @@
 //! The arguments as a command.
 ghost use Rattle.std.specs.Prelude.{◌≡◌, true, Err, None, [], map, option_map, IfOk};
+ghost use Rattle.std.specs.List.{list_all};
 ghost use Rattle.std.specs.String.{string_bytes};
-ghost use Rattle.clap.specs.Words.{app_of, fault_of, first_of, found_of, matches_of, rows_of, takes};
+ghost use Rattle.clap.specs.Words.{all_of, app_of, fault_of, first_of, found_of, matches_of, rows_of, takes};
 ghost use Rattle.command_words.specs.Language.{app, verb_in};
-ghost use Rattle.command_words.specs.Words.{Gives, abi_by, are_taken, caps_by, command_by, line_by, line_in, lookup_by, resolve_by, root_by, secure_by, size_by, tag_by, value_by, values_in};
+ghost use Rattle.command_words.specs.Words.{Gives, abi_by, are_taken, caps_by, command_by, line_by, line_in, lookup_by, resolve_by, root_by, secure_by, size_by, tag_by, value_by, values_by, values_in};
+ghost use Rattle.command_words.specs.Values.{is_value};
 ghost use Rattle.command_words.specs.declared.fault.WordsFault.TheVariants as faults;
 
 use crate::fault::WordsFault;
@@ -14,7 +16,7 @@ use crate::verb::{Verb, verb_in};
 use clap::ArgMatches;
 use clap::error::ErrorKind;
 use commands::{Command, Lookup, Resolve};
-use lib_types::{Abi, Text, Texts};
+use lib_types::{Abi, NoMemory, Text, Texts};
 use std::alloc::Global;
 use tree_face::Tag;
 
@@ -127,16 +129,56 @@ fn text_by(alloc: Global, found: &ArgMatches<'_>, id: &str) -> Result<Text, Word
     }
 }
 
+// All values of this argument.
+#[tactic(auto, using(crate::proofs::Found::all_are))]
+fn all_of<'m, 'a>(found: &'m ArgMatches<'a>, id: &str) -> Option<&'m [&'a str]>
+    ensures { option_map (λ texts. map (λ t. t.now) texts.now) result ≡ all_of id.now (rows_of (found_of found.now)) }
+{
+    found.get_raw(id)
+}
+
+fn are_values(texts: &[&str]) -> bool
+    ensures { result ≡ list_all is_value (map (λ t. t.now) texts.now) }
+{
+    for text in texts {
+        if !is_value(text) {
+            return false;
+        }
+    }
+    true
+}
+
+fn copies_of(alloc: Global, texts: &[&str]) -> Result<Texts, NoMemory>
+    ensures { IfOk result (λ copies. copies ≡ map (λ t. t.now) texts.now) }
+{
+    let mut copies = Texts::new(alloc);
+    for text in texts {
+        copies.push(Text::copy_of(alloc, text.as_bytes())?)?;
+    }
+    Ok(copies)
+}
+
+// All values of this argument, none if it isn't given.
+fn texts_by(alloc: Global, found: &ArgMatches<'_>, id: &str) -> Result<Texts, WordsFault>
+    ensures { Gives (values_by id.now (rows_of (found_of found.now))) result }
+{
+    match all_of(found, id) {
+        Some(texts) if are_values(texts) => Ok(copies_of(alloc, texts)?),
+        Some(_) => Err(WordsFault::Usage),
+        None => Ok(Texts::new(alloc)),
+    }
+}
+
 fn resolve_by(alloc: Global, found: &ArgMatches<'_>) -> Result<Resolve, WordsFault>
     ensures { Gives (resolve_by (rows_of (found_of found.now))) result }
 {
-    let path = text_by(alloc, found, "PATH")?;
+    let paths = texts_by(alloc, found, "PATH")?;
     let caps = caps_by(alloc, found)?;
     let library_path = text_by(alloc, found, "library-path")?;
     let platform = text_by(alloc, found, "platform")?;
     let secure = secure_by(found);
     Ok(Resolve {
-        path,
+        paths,
         caps,
         library_path,
         platform,

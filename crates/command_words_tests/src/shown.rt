@@ -33,6 +33,13 @@ fn put_caps(text: &mut Vec<u8>, caps: &Texts) -> Result<(), NoMemory> {
     Ok(())
 }
 
+fn put_paths(text: &mut Vec<u8>, paths: &Texts) -> Result<(), NoMemory> {
+    for path in paths.as_slice() {
+        put_line(text, b"path=", path.as_bytes())?;
+    }
+    Ok(())
+}
+
 // The ABI is shown by its flags in a cache.
 fn put_lookup(alloc: Global, text: &mut Vec<u8>, lookup: &Lookup) -> Result<(), NoMemory> {
     put_line(text, b"name=", lookup.name.as_bytes())?;
@@ -41,7 +48,7 @@ fn put_lookup(alloc: Global, text: &mut Vec<u8>, lookup: &Lookup) -> Result<(), 
 }
 
 fn put_resolve(text: &mut Vec<u8>, resolve: &Resolve) -> Result<(), NoMemory> {
-    put_line(text, b"path=", resolve.path.as_bytes())?;
+    put_paths(text, &resolve.paths)?;
     put_caps(text, &resolve.caps)?;
     put_line(text, b"library_path=", resolve.library_path.as_bytes())?;
     put_line(text, b"platform=", resolve.platform.as_bytes())?;

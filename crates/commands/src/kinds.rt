@@ -11,18 +11,18 @@ pub struct Lookup {
     pub caps: Texts,
 }
 
-/// The program whose libraries are listed, and what the loader is given beside the files.
+/// The programs whose libraries are listed, and what the loader is given beside the files.
 #[derive(Drop)]
 pub struct Resolve {
-    /// The program's path in the image.
-    pub path: Text,
+    /// The programs' paths in the image.
+    pub paths: Texts,
     /// The hwcaps names that the processor has, the preferred one first.
     pub caps: Texts,
     /// `LD_LIBRARY_PATH`; empty, if there is none.
     pub library_path: Text,
     /// The value of `$PLATFORM`.
     pub platform: Text,
-    /// Whether the program runs in secure execution, as a set-user-ID program does.
+    /// Whether the programs run in secure execution, as a set-user-ID program does.
     pub secure: bool,
 }
 
@@ -39,6 +39,6 @@ pub enum Command {
     Print,
     /// To look up a name in the cache.
     Lookup(Lookup),
-    /// To list the libraries that a program loads.
+    /// To list the libraries that programs load.
     Resolve(Resolve),
 }

@@ -1,3 +1,4 @@
 pub mod Each
 pub mod Files
 pub mod Patterns
+pub mod Looks

@@ -20,7 +20,11 @@ pub record IsSameView (old new : ViewState) : Type 0 where
   pub tree : new.tree ≡ old.tree
   pub whole : new.whole ≡ old.whole
 
--- unless all of the tree is there, exactly these paths were looked up in addition, and exactly these directories were listed in addition
-pub record LooksUp (paths dirs : List (List ℕ)) (old new : ViewState) : Type 0 where
-  pub looked : old.whole ≡ false → new.looked ≡ with_paths old.looked paths
-  pub listed : old.whole ≡ false → new.listed ≡ with_dirs old.listed dirs
+-- Of these paths and directories all were looked up in addition, except those that are left. If all of the tree is there, nothing is said.
+pub record LooksBut (paths left dirs dirs_left : List (List ℕ)) (old new : ViewState) : Type 0 where
+  pub looked : old.whole ≡ false → with_paths new.looked left ≡ with_paths old.looked paths
+  pub listed : old.whole ≡ false → with_dirs new.listed dirs_left ≡ with_dirs old.listed dirs
+
+-- exactly these paths were looked up in addition, and exactly these directories were listed in addition
+abbrev pub LooksUp : List (List ℕ) → List (List ℕ) → ViewState → ViewState → Type 0
+LooksUp paths dirs old new = LooksBut paths [] dirs [] old new

@@ -59,6 +59,14 @@ impl<'t> TreeView for WholeView<'t> {
 
     ghost knows = { λ v. Unit {0} };
 
+    ghost since = { λ start v. Unit {0} };
+
+    ghost fails = { λ fault start v. Unit {0} };
+
+    ghost starts = { λ v. tt };
+
+    ghost gives_up = { λ start v h. tt };
+
     fn file_at(&mut self, alloc: Global, text: &[u8]) -> Result<Option<FoundFile>, ViewFault> {
         let Some(real) = place_of(alloc, self.tree, text)? else {
             return Ok(None);

@@ -5,7 +5,7 @@ use Rattle.tree_face.specs.declared.disk.Slot.TheVariants.{Manifest, Cache, Aux}
 use Rattle.device_rules.specs.declared.existing.Stamp.{Stamp}
 use Rattle.device_rules.specs.declared.existing.Owner.{Owner}
 use Rattle.device_rules.specs.declared.existing.TheConstants.{CACHE_MAX, LENGTH_MAX, NO_CACHE}
-use Rattle.mtree_manifest.specs.declared.fault.TheConstants.{TEXT_MAX}
+use Rattle.mtree_manifest.specs.declared.fault.TheConstants.{MANIFEST_MAX}
 
 -- a longer file isn't read
 abbrev pub largest : Slot → ℕ
@@ -18,7 +18,7 @@ abbrev pub length_to_read : Slot → Bool → ℕ → Option ℕ
 length_to_read slot is_cache size = if nat_lt (largest slot) size then None else Some (most_of slot is_cache size)
   where
     most_of : Slot → Bool → ℕ → ℕ
-    most_of Manifest _ n = min n (TEXT_MAX + 1)
+    most_of Manifest _ n = min n (MANIFEST_MAX + 1)
     most_of Cache is_cache n = if is_cache then n else min n NO_CACHE
     most_of Aux _ n = n
 

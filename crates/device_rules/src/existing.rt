@@ -4,7 +4,7 @@ ghost use Rattle.std.specs.Fs.{IsFile, file_type, metadata_len, metadata_mode};
 ghost use Rattle.device_rules.specs.Folder.{IsAsRead, largest, length_to_read, mode_of, owner_to_give};
 
 use cache_layout::{ENTRIES_MAX, ENTRY_SIZE, STRINGS_LIMIT};
-use mtree_manifest::TEXT_MAX;
+use mtree_manifest::MANIFEST_MAX;
 use std::fs::Metadata;
 use std::os::unix::fs::MetadataExt;
 use tree_face::Slot;
@@ -236,7 +236,7 @@ pub fn largest(slot: Slot) -> u64
 }
 
 // One byte more than a manifest may have is enough to show that it is too long.
-const TOO_LONG_MANIFEST: u64 = TEXT_MAX as u64 + 1;
+const TOO_LONG_MANIFEST: u64 = MANIFEST_MAX as u64 + 1;
 
 // This number of first bytes is enough to show that a file is not a cache.
 const NO_CACHE: u64 = 64;
@@ -258,7 +258,8 @@ pub fn length_to_read(slot: Slot, is_cache: bool, size: u64) -> Option<u64>
 // The permission bits of a mode.
 const PERMISSIONS: u32 = 0o777;
 
-const USUAL_MODE: u32 = 0o644;
+/// The mode of a slot's new file, if it replaces none.
+pub const USUAL_MODE: u32 = 0o644;
 
 /// The mode of a slot's new file, given the mode of the file that it replaces. Everybody may read the cache, whatever the umask is.
 pub fn mode_of(slot: Slot, existing: Option<u32>) -> u32

@@ -12,12 +12,12 @@ mod room;
 mod temporary;
 
 pub use existing::{
-    Existing, Identity, Numbers, Opened, Owner, Stamp, existing_of, identity_of, is_as_read,
-    largest, length_to_read, mode_of, mode_until_whole, numbers_of, opened_as, owner_of,
-    owner_to_give, stamp_of,
+    Existing, Identity, Numbers, Opened, Owner, Stamp, USUAL_MODE, existing_of, identity_of,
+    is_as_read, largest, length_to_read, mode_of, mode_until_whole, numbers_of, opened_as,
+    owner_of, owner_to_give, stamp_of,
 };
 pub use folder_modes::{FOLDER_MODE, is_closed, lacks_mode};
-pub use head::{HEAD_SIZE, entries_in};
+pub use head::{HEAD_SIZE, entries_in, strings_in};
 pub use kinds::{
     is_cut, is_for_now, is_forbidden, is_missing, is_no_text, is_out_of_memory, is_there,
 };

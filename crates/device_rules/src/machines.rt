@@ -3,7 +3,7 @@ ghost use Rattle.std.specs.Prelude.{◌≡◌};
 ghost use Rattle.std.specs.Prelude.{option_map};
 ghost use Rattle.device_rules.specs.Machines.{foreign_machine, machine_in, machine_name};
 
-use lib_types::Abi;
+use lib_types::{Abi, ELF_MAGIC};
 
 /// The number of the machine of an ELF file with these first bytes, if no cache is built for it.
 pub fn foreign_machine(head: &[u8]) -> Option<u16>
@@ -21,7 +21,7 @@ pub fn foreign_machine(head: &[u8]) -> Option<u16>
 fn machine_in(head: &[u8]) -> Option<u16>
     ensures { result ≡ machine_in head.now }
 {
-    if head.len() < 20 || !head.starts_with(b"\x7fELF") {
+    if head.len() < 20 || !head.starts_with(ELF_MAGIC) {
         return None;
     }
     if head[5] == 2 {

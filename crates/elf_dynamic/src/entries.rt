@@ -9,10 +9,9 @@ ghost use Rattle.elf_dynamic.specs.Windows.{Lessens};
 
 use crate::ElfFile;
 use crate::kinds::DynamicEntry;
-use crate::tags::tag;
 use elf_headers::Class;
 use elf_headers::kinds::Segment;
-use lib_types::Failed;
+use lib_types::{DT_NULL, Failed};
 use tree_face::Store;
 
 /// A reader of the entries of a section. It reads through the file's window.
@@ -127,7 +126,7 @@ impl Entries {
             return Ok(None);
         }
         let entry = entry(self.wide, file.cursor.section.from(self.at()));
-        if entry.tag == tag!(NULL) {
+        if entry.tag == DT_NULL {
             return Ok(None);
         }
         let each = entry_length(self.wide);

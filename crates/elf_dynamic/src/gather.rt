@@ -13,11 +13,10 @@ ghost use Rattle.elf_dynamic.specs.Values.{texts_in, HasTexts};
 
 use crate::entries::Entries;
 use crate::kinds::{Dynamic, DynamicEntry};
-use crate::tags::tag;
 use crate::values::{Values, is_text};
 use crate::{ElfFile, ObjectFault};
 use elf_headers::kinds::Segment;
-use lib_types::{Defect, NoMemory, Seq, Text};
+use lib_types::{DT_NEEDED, DT_RPATH, DT_RUNPATH, DT_SONAME, Defect, NoMemory, Seq, Text};
 use std::alloc::Global;
 use tree_face::Store;
 
@@ -34,7 +33,7 @@ fn keeps(keep: Keep, tag: u64) -> bool
 {
     match keep {
         Keep::All => true,
-        Keep::Soname => tag == tag!(SONAME),
+        Keep::Soname => tag == DT_SONAME,
     }
 }
 
@@ -55,21 +54,21 @@ pub fn no_texts(alloc: Global, nodeflib: bool) -> Dynamic
 fn counts(found: &Dynamic, tag: u64) -> bool
     ensures { result ≡ counts found.now tag }
 {
-    tag == tag!(NEEDED)
-        || tag == tag!(SONAME) && found.soname.is_none()
-        || tag == tag!(RPATH) && found.rpath.is_none()
-        || tag == tag!(RUNPATH) && found.runpath.is_none()
+    tag == DT_NEEDED
+        || tag == DT_SONAME && found.soname.is_none()
+        || tag == DT_RPATH && found.rpath.is_none()
+        || tag == DT_RUNPATH && found.runpath.is_none()
 }
 
 // Stores the text of an entry that counts.
 fn put(found: &mut Dynamic, tag: u64, text: Text) -> Result<(), NoMemory>
     ensures { OnOk result (found.new ≡ with_text tag text found.old) }
 {
-    if tag == tag!(NEEDED) {
+    if tag == DT_NEEDED {
         found.needed.push(text)?;
-    } else if tag == tag!(SONAME) {
+    } else if tag == DT_SONAME {
         found.soname = Some(text);
-    } else if tag == tag!(RPATH) {
+    } else if tag == DT_RPATH {
         found.rpath = Some(text);
     } else {
         found.runpath = Some(text);
@@ -82,11 +81,11 @@ fn put(found: &mut Dynamic, tag: u64, text: Text) -> Result<(), NoMemory>
 fn note(alloc: Global, found: &mut Dynamic, tag: u64)
     ensures { (text : List ℕ) → (tag == 14) ≡ false → kept Keep.Soname found.new ≡ kept Keep.Soname (with_text tag text found.old) }
 {
-    if tag == tag!(NEEDED) {
+    if tag == DT_NEEDED {
         return;
     }
     let empty = Text::from_vec(Vec::new(alloc));
-    if tag == tag!(RPATH) {
+    if tag == DT_RPATH {
         found.rpath = Some(empty);
     } else {
         found.runpath = Some(empty);

@@ -11,7 +11,6 @@ mod reader;
 mod section;
 mod segments;
 mod table;
-mod tags;
 mod text;
 mod values;
 mod window;

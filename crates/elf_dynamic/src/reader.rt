@@ -17,11 +17,9 @@ use crate::section::read_dynamic;
 use crate::{AnalyseFault, ElfFile, ObjectFault};
 use elf_headers::head;
 use elf_headers::kinds::Head;
-use lib_types::{Analysis, Defect};
+use lib_types::{Analysis, Defect, ET_EXEC};
 use std::alloc::Global;
 use tree_face::Store;
-
-const ET_EXEC: u16 = 2;
 
 // Reads the dynamic section of the open file, if it has one. `keep` says which texts are kept.
 fn read_begun<S: Store>(

@@ -22,12 +22,9 @@ use crate::segments::Wanted;
 use crate::values::{Values, read_values};
 use crate::{ElfFile, ObjectFault};
 use elf_headers::kinds::{Head, Segment};
-use lib_types::{Defect, Failed, is_name};
+use lib_types::{DF_1_NODEFLIB, Defect, Failed, is_name};
 use std::alloc::Global;
 use tree_face::Store;
-
-/// DF_1_NODEFLIB of DT_FLAGS_1.
-const DF_1_NODEFLIB: u64 = 0x800;
 
 fn has_nodeflib(flags: Option<u64>) -> bool
     ensures { result ≡ option_map_or has_nodeflib flags false }

@@ -9,12 +9,8 @@ ghost use Rattle.elf_dynamic.specs.Windows.{Lessens, header_at, unread_from};
 use crate::ElfFile;
 use elf_headers::Class;
 use elf_headers::kinds::{Head, Segment};
-use lib_types::Failed;
+use lib_types::{Failed, PT_DYNAMIC, PT_LOAD};
 use tree_face::Store;
-
-const PT_LOAD: u32 = 1;
-
-const PT_DYNAMIC: u32 = 2;
 
 /// Which segment is looked for.
 #[derive(Clone, Copy)]

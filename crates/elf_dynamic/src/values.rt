@@ -1,5 +1,6 @@
 //! The values of the entries that have no texts.
 ghost use Rattle.std.specs.Prelude.{◌≡◌, ◌≤◌, ◌*◌, ◌+◌, ◌<◌, ◌^◌, ◌∷◌, [], ◌==◌, ◌||◌, None, Some, IfOk};
+ghost use Rattle.lib_types.specs.Ranges.{is_text_tag};
 ghost use Rattle.elf_headers.specs.Reading.{OfKnown, TakesAtMost, reading_ending};
 ghost use Rattle.elf_dynamic.specs.Cursor.{IsCursorOf, ReadsOn, width};
 ghost use Rattle.elf_dynamic.specs.declared.kinds.DynamicEntry.{DynamicEntry};
@@ -9,9 +10,10 @@ ghost use Rattle.elf_dynamic.specs.Values.{first_of, joined, values_of};
 use crate::ElfFile;
 use crate::entries::Entries;
 use crate::kinds::DynamicEntry;
-use crate::tags::tag;
 use elf_headers::kinds::Segment;
-use lib_types::Failed;
+use lib_types::{
+    DT_FLAGS_1, DT_NEEDED, DT_RPATH, DT_RUNPATH, DT_SONAME, DT_STRSZ, DT_STRTAB, Failed,
+};
 use tree_face::Store;
 
 /// The value of the first entry with each of these tags, and the number of entries with a text.
@@ -32,9 +34,9 @@ fn first(before: Option<u64>, value: u64) -> Option<u64>
 
 /// Whether the value of an entry with this tag is the offset of a text.
 pub fn is_text(tag: u64) -> bool
-    ensures { result ≡ ((tag == 1) || (tag == 14) || (tag == 15) || (tag == 29)) }
+    ensures { result ≡ is_text_tag tag }
 {
-    tag == tag!(NEEDED) || tag == tag!(SONAME) || tag == tag!(RPATH) || tag == tag!(RUNPATH)
+    tag == DT_NEEDED || tag == DT_SONAME || tag == DT_RPATH || tag == DT_RUNPATH
 }
 
 impl Values {
@@ -57,11 +59,11 @@ impl Values {
         let mut with = self;
         if is_text(entry.tag) {
             with.texts += 1;
-        } else if entry.tag == tag!(STRTAB) {
+        } else if entry.tag == DT_STRTAB {
             with.strtab = first(self.strtab, entry.value);
-        } else if entry.tag == tag!(STRSZ) {
+        } else if entry.tag == DT_STRSZ {
             with.strsz = first(self.strsz, entry.value);
-        } else if entry.tag == tag!(FLAGS_1) {
+        } else if entry.tag == DT_FLAGS_1 {
             with.flags_1 = first(self.flags_1, entry.value);
         }
         with

@@ -8,11 +8,7 @@ ghost use Rattle.lib_types.specs.Ranges.{IsInRange};
 
 use crate::kinds::{Head, Segment};
 use byteorder::{ByteOrder, LittleEndian};
-use lib_types::{Abi, Defect};
-
-const ET_EXEC: u16 = 2;
-
-const ET_DYN: u16 = 3;
+use lib_types::{Abi, Defect, ELF_MAGIC, ET_DYN, ET_EXEC};
 
 const PN_XNUM: u16 = 65535;
 
@@ -194,7 +190,7 @@ pub fn head_of(front: &[u8], size: u64) -> Result<Head, Defect>
     ensures head { result ≡ head_of size front.now }
     ensures range { IfErr result IsInRange }
 {
-    if !front.starts_with(b"\x7fELF") {
+    if !front.starts_with(ELF_MAGIC) {
         return Err(Defect::NotElf);
     }
     if size < 16 {

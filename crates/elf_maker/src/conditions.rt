@@ -10,13 +10,11 @@ use crate::kinds::Spec;
 use elf_dynamic::TEXT_LIMIT;
 use lib_types::{Text, is_name};
 
-// The maximum length of a text in bytes. Its NUL must be within the first `TEXT_LIMIT` bytes.
-const TEXT_MAX: usize = TEXT_LIMIT as usize - 1;
-
+// Whether a text and its NUL fit in the `TEXT_LIMIT` bytes that are read of a string.
 fn is_text(text: &[u8]) -> bool
     ensures { result ≡ is_text text.now }
 {
-    !text.contains(&0) && text.len() <= TEXT_MAX
+    !text.contains(&0) && text.len() < TEXT_LIMIT as usize
 }
 
 fn are_texts(texts: &[Text]) -> bool

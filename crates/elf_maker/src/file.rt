@@ -13,16 +13,12 @@ use crate::kinds::Spec;
 use crate::layout::{Layout, address_of, at_class, layout_of};
 use crate::section::put_section;
 use crate::strings::put_strings;
-use lib_types::{Abi, NoMemory};
+use lib_types::{Abi, ELF_MAGIC, NoMemory, PT_DYNAMIC, PT_LOAD};
 use std::alloc::Global;
 
 const ELFDATA2LSB: u8 = 1;
 
 const EV_CURRENT: u8 = 1;
-
-const PT_LOAD: u64 = 1;
-
-const PT_DYNAMIC: u64 = 2;
 
 // PF_R of p_flags.
 const READABLE: u64 = 4;
@@ -32,7 +28,7 @@ const PAGE: u64 = 0x1000;
 fn put_identification(out: &mut Vec<u8>, class: u8) -> Result<(), NoMemory>
     ensures { OnOk result (out.new.items ≡ out.old.items ++ identification class) }
 {
-    out.extend_from_slice(b"\x7fELF")?;
+    out.extend_from_slice(ELF_MAGIC)?;
     out.extend_from_slice(&[class, ELFDATA2LSB, EV_CURRENT, 0, 0, 0, 0, 0, 0, 0, 0, 0])?;
     Ok(())
 }
@@ -112,11 +108,11 @@ fn put_file(out: &mut Vec<u8>, layout: &Layout, spec: &Spec) -> Result<(), NoMem
     put_identification(out, class)?;
     put_header(out, w, spec.etype, spec.abi)?;
     let size = layout.strings + layout.strings_size;
-    put_program_header(out, w, PT_LOAD, 0, size, PAGE)?;
+    put_program_header(out, w, u64::from(PT_LOAD), 0, size, PAGE)?;
     put_program_header(
         out,
         w,
-        PT_DYNAMIC,
+        u64::from(PT_DYNAMIC),
         layout.section,
         layout.section_size,
         w as u64,

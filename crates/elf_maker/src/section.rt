@@ -7,27 +7,10 @@ ghost use Rattle.elf_maker.specs.Parts.{IsWidth, needed_texts, entries_bytes};
 
 use crate::fields::put_fields;
 use elf_dynamic::kinds::{Dynamic, DynamicEntry};
-use lib_types::{NoMemory, Text};
-
-// Tags.
-const DT_NULL: u64 = 0;
-
-const DT_NEEDED: u64 = 1;
-
-const DT_STRTAB: u64 = 5;
-
-const DT_STRSZ: u64 = 10;
-
-const DT_SONAME: u64 = 14;
-
-const DT_RPATH: u64 = 15;
-
-const DT_RUNPATH: u64 = 29;
-
-const DT_FLAGS_1: u64 = 0x6ffffffb;
-
-// DF_1_NODEFLIB of DT_FLAGS_1.
-const NODEFLIB: u64 = 0x800;
+use lib_types::{
+    DF_1_NODEFLIB, DT_FLAGS_1, DT_NEEDED, DT_NULL, DT_RPATH, DT_RUNPATH, DT_SONAME, DT_STRSZ,
+    DT_STRTAB, NoMemory, Text,
+};
 
 #[tactic(auto, unfolding(crate::specs::Parts::entries_bytes))]
 fn put_entry(out: &mut Vec<u8>, w: usize, entry: DynamicEntry) -> Result<(), NoMemory>
@@ -106,7 +89,7 @@ fn put_flags(out: &mut Vec<u8>, w: usize, nodeflib: bool) -> Result<(), NoMemory
             w,
             DynamicEntry {
                 tag: DT_FLAGS_1,
-                value: NODEFLIB,
+                value: DF_1_NODEFLIB,
             },
         );
     }

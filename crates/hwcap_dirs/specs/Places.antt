@@ -1,5 +1,5 @@
 -- The search directories for libraries, in order (ldconfig(8), ld.so(8): glibc-hwcaps subdirectories).
-use Rattle.std.specs.Prelude.{ℕ, Bool, true, false, List, [], ◌∷◌, ◌++◌, ◌&&◌, nat_eq, nat_le, length, not, if◌then◌else◌, filter, flat_map, codes, Option, Some, None, option_map, is_none, Result, Ok, Err}
+use Rattle.std.specs.Prelude.{ℕ, Bool, true, false, List, [], ◌∷◌, ◌++◌, ◌&&◌, nat_eq, nat_le, length, drop, not, if◌then◌else◌, filter, flat_map, codes, Option, Some, None, option_map, is_none, Result, Ok, Err}
 use Rattle.std.specs.List.{filter_map, list_all, starts_with}
 use Rattle.std.specs.Str.{bytes_eq}
 use Rattle.lib_types.specs.Abi.{abis, row_of}
@@ -42,7 +42,7 @@ system_dirs = codes "/lib" ∷ codes "/usr/lib" ∷ codes "/lib64" ∷ codes "/u
 
 -- the directories of an ABI's libraries in Debian (its multiarch specification)
 abbrev pub debian_dirs_of : Abi → List (List ℕ)
-debian_dirs_of abi = (codes "/lib/" ++ (row_of abi).triplet) ∷ (codes "/usr/lib/" ++ (row_of abi).triplet) ∷ []
+debian_dirs_of abi = drop 4 (row_of abi).usr_lib ∷ (row_of abi).usr_lib ∷ []
 
 abbrev pub debian_dirs : List (List ℕ)
 debian_dirs = flat_map debian_dirs_of abis

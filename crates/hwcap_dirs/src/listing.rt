@@ -9,7 +9,7 @@ ghost use Rattle.hwcap_dirs.specs.Places.{absent, are_dirs, are_spelled, builtin
 
 use crate::kinds::{Dirs, Place, Places, Scope};
 use crate::system::next_builtin_dir;
-use lib_types::{NoMemory, Text, Texts};
+use lib_types::{HWCAPS_DIR, NoMemory, Text, Texts};
 use path_walk::{Mode, WalkFault, join, resolve};
 use std::alloc::Global;
 use string_pool::TextSet;
@@ -99,7 +99,7 @@ fn add_places(
 ) -> Result<(), NoMemory>
     ensures { OnOk result (places.new ≡ places.old ++ places_of tree.now (text.now, real)) }
 {
-    let below = join(alloc, text, b"glibc-hwcaps")?;
+    let below = join(alloc, text, HWCAPS_DIR)?;
     let spelled = Text::copy_of(alloc, text)?;
     places.push(Place {
         spelled,

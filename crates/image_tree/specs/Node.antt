@@ -3,7 +3,7 @@ use Rattle.std.specs.Prelude.{ℕ, Bool, true, false, List, nat_le, ◌==◌, �
 use Rattle.std.specs.List.{list_all}
 use Rattle.std.specs.Str.{is_utf8}
 use Rattle.image_tree.specs.declared.node.Node.{Node}
-use Rattle.image_tree.specs.declared.node.TheConstants.{TEXT_MAX}
+use Rattle.image_tree.specs.declared.node.TheConstants.{NODE_TEXT_MAX}
 use Rattle.image_tree.specs.declared.node.Node.TheVariants.{Dir, File, Link}
 
 abbrev pub has_no_nul : List ℕ → Bool
@@ -11,7 +11,7 @@ has_no_nul = list_all (λ b. not (b == 0))
 
 -- the target of a symbolic link (symlink(7)): 1 to 4095 bytes without NUL
 abbrev pub is_target : List ℕ → Bool
-is_target target = nat_le 1 (length target) && nat_le (length target) TEXT_MAX && has_no_nul target
+is_target target = nat_le 1 (length target) && nat_le (length target) NODE_TEXT_MAX && has_no_nul target
 
 -- the key under which a store keeps a file's content: 1 to 4095 bytes of UTF-8 without NUL
 abbrev pub is_key : List ℕ → Bool

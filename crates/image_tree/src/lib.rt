@@ -5,6 +5,6 @@ mod node;
 mod path;
 mod tree;
 
-pub use node::{Id, Node, TEXT_MAX, is_node};
+pub use node::{Id, NODE_TEXT_MAX, Node, is_node};
 pub use path::{PATH_MAX, is_below, is_kept, is_path};
 pub use tree::{Children, Kind, Listing, NODES_MAX, Nodes, Tree, TreeFault};

@@ -2,6 +2,7 @@
 ghost use Rattle.std.specs.Prelude.{◌≡◌};
 ghost use Rattle.image_tree.specs.Node.{is_node, is_dir, is_key, is_target, has_no_nul};
 
+use crate::path::PATH_MAX;
 use lib_types::{Text, is_utf8};
 
 /// The identity of a file: device, inode, ctime and size. The ctime is in nanoseconds since the epoch, the size in bytes.
@@ -24,7 +25,7 @@ pub enum Node {
 }
 
 /// The maximum length of a content key or a link target in bytes.
-pub const TEXT_MAX: usize = 4095;
+pub const NODE_TEXT_MAX: usize = PATH_MAX;
 
 /// Whether the node's key or target, if it has one, is valid.
 pub fn is_node(node: &Node) -> bool
@@ -56,7 +57,7 @@ fn is_key(key: &[u8]) -> bool
 fn is_target(target: &[u8]) -> bool
     ensures { result ≡ is_target target.now }
 {
-    !target.is_empty() && target.len() <= TEXT_MAX && has_no_nul(target)
+    !target.is_empty() && target.len() <= NODE_TEXT_MAX && has_no_nul(target)
 }
 
 fn has_no_nul(bytes: &[u8]) -> bool

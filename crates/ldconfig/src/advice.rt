@@ -41,7 +41,7 @@ usage: ldconfig lookup NAME [--abi ABI] [--caps LIST] [-r ROOT]: the path that t
 ";
 
 const RESOLVE_USAGE: &str = "\
-usage: ldconfig resolve PATH [--caps LIST] [--library-path LIST] [--platform TEXT] [--secure] [-r ROOT]: the libraries that the program or library PATH of the image, or of the directory ROOT, loads, and from where, as ldd lists them
+usage: ldconfig resolve PATH.. [--caps LIST] [--library-path LIST] [--platform TEXT] [--secure] [-r ROOT]: the libraries that each program or library PATH of the image, or of the directory ROOT, loads, and from where, as ldd lists them
 ";
 
 const USAGE_END: &str =
@@ -82,10 +82,14 @@ const BAD_CACHE: &str =
     "ldconfig: etc/ld.so.cache: the line on the output says what is wrong, docs/FORMATS.md explains it; ldconfig update makes another\n";
 
 const NO_PROGRAM: &str =
-    "ldconfig: the path leads to no file of image.mtree, links in the image followed\n";
+    "ldconfig: a path leads to no file of image.mtree, links in the image followed\n";
 
 pub const BAD_PROGRAM: &str =
-    "ldconfig: the line on the output says why the file is not a program or library, docs/FORMATS.md explains it\n";
+    "ldconfig: the line on the output says why a file is not a program or library, docs/FORMATS.md explains it\n";
+
+/// What is said of a script whose last edits have no update after them.
+pub const EDITS_NOT_WRITTEN: &str =
+    "ldconfig: standard input: the edits after the last update were not written: end the script with update\n";
 
 /// The advice for a status, whose lines each end with a line feed.
 pub fn advice(status: Status) -> Option<&'static str>
@@ -136,6 +140,16 @@ pub fn cause_of(kind: LineKind, line: &[u8]) -> &'static str {
         LineKind::BadType => "this type isn't one of file, dir, link, block, char, fifo, socket",
         LineKind::NoTarget => "a link has no target",
         LineKind::BadLine => cause_of_form(line),
+    }
+}
+
+/// Why a line of a script is malformed, in words.
+pub fn cause_in_script(kind: LineKind) -> &'static str {
+    match kind {
+        LineKind::BadLine => {
+            "it isn't put LINE, drop PATH or update, or LINE or PATH is malformed"
+        }
+        _ => cause_of(kind, b""),
     }
 }
 

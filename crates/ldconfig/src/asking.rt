@@ -76,7 +76,7 @@ where
 }
 
 const NO_PROGRAM: &str =
-    "ldconfig: the path leads to no file of the directory, links in it followed\n";
+    "ldconfig: a path leads to no file of the directory, links in it followed\n";
 
 fn note_resolved<R: Runtime + Streams>(
     rt: &R,

@@ -1,6 +1,7 @@
 //! The auxiliary cache of `--aux-cache FILE`, a path on this machine.
 use crate::StartFault;
 use crate::paths::{directory_of, real_path};
+use aux_cache::{MAGIC_START, MAGIC_START_SIZE};
 use device_rules::{Identity, RunId, divided};
 use image_folder::{HeldFile, open_file, read_whole};
 use root_update::AuxUse;
@@ -155,11 +156,6 @@ fn is_in<R: Runtime>(rt: &R, real: &str, root: &str, file: &str) -> Result<bool,
     }
 }
 
-// The first bytes of an auxiliary cache of any version that is read. That of glibc 2.36 has the version 2.0.
-const BEGINNING: &[u8] = b"glibc-ld.so.auxcache-1.";
-
-const BEGINNING_SIZE: usize = 23;
-
 // What is at the path of an auxiliary cache.
 enum Existing {
     // Nothing is lost if it is replaced: it is an auxiliary cache, or empty, or can't be read. If it can't be read, its identity is unknown, and
@@ -176,9 +172,9 @@ where
     let Ok((mut file, stamp)) = open_file(rt, path) else {
         return Existing::Replaceable(None);
     };
-    let mut head = [0u8; BEGINNING_SIZE];
+    let mut head = [0u8; MAGIC_START_SIZE];
     if stamp.size == 0
-        || (read_whole(&mut file, &mut head).is_ok() && head.as_slice() == BEGINNING)
+        || (read_whole(&mut file, &mut head).is_ok() && head.as_slice() == MAGIC_START)
     {
         Existing::Replaceable(Some(stamp.identity()))
     } else {

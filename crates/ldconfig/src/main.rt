@@ -4,6 +4,7 @@
 mod advice;
 mod asking;
 mod aux;
+mod conf_lines;
 mod job;
 mod name_notes;
 mod notes;
@@ -11,12 +12,13 @@ mod paths;
 mod print;
 mod root;
 mod root_notes;
+mod unsearched;
 mod update;
 
 ghost use Rattle.std.specs.Prelude.{◌≡◌};
 ghost use Rattle.ldconfig.specs.Start.{code_of};
 
-use advice::{USAGE, advice, usage_of, written_before};
+use advice::{EDITS_NOT_WRITTEN, USAGE, advice, usage_of, written_before};
 use asking::run_asking;
 use command_runs::Status;
 use command_words::help_of;
@@ -26,7 +28,7 @@ use image_folder::HeldFile;
 use ldconfig_cli::{Arguments, run_on};
 use lib_types::NoMemory;
 use name_notes::note_names;
-use notes::{note_manifest, note_size, note_update};
+use notes::{note_long_script, note_manifest, note_script, note_size, note_update};
 use print::{print_text, word_of};
 use root::run_root;
 use root_words::is_root_command;
@@ -53,7 +55,7 @@ impl StartFault {
         ensures { result ≡ code_of self }
     {
         match self {
-            StartFault::NoMemory => 14,
+            StartFault::NoMemory => Status::NoMemory.code(),
             StartFault::Other => 20,
         }
     }
@@ -137,21 +139,27 @@ fn explain<R: Runtime + AllocGlobal + Streams>(
     status: Status,
     store: &FolderStore<R>,
     disk: &mut FolderDisk<R>,
+    input: &StdinSource<R>,
 ) -> io::Result<()>
 where
     R::File: HeldFile,
 {
     let written = disk.written();
-    if written.cache {
+    if written.cache && !written.searchable {
         // If a line can't be written, the others still say how the command ended.
         let _ = note_names(rt, disk);
     }
+    if status == Status::Done && input.ends_in_edits() {
+        write_text(rt, EDITS_NOT_WRITTEN)?;
+    }
     match status {
-        Status::Done if written.cache => note_update(rt, store, written),
+        Status::Done if written.cache => note_update(rt, store, disk),
         Status::BadManifest(fault) => {
             note_size(rt, status, written.manifest_length)?;
             note_manifest(rt, disk, fault)
         }
+        Status::BadScript { line, kind } => note_script(rt, input, line, kind),
+        Status::TooLong { .. } => note_long_script(rt),
         Status::TooMany { .. } | Status::TooLarge { .. } => note_size(rt, status, None),
         Status::OutputFault => say(rt, written_before(written.manifest, written.cache)),
         Status::Usage => say_usage(rt),
@@ -247,7 +255,7 @@ where
     };
     let status = run_on(rt.alloc(), arguments, devices);
     // If a line can't be written, nothing changes.
-    let _ = or_out_of_memory(rt, explain(rt, status, &store, &mut disk));
+    let _ = or_out_of_memory(rt, explain(rt, status, &store, &mut disk, &input));
     Ok(status.code())
 }
 

@@ -1,29 +1,38 @@
 //! Lines on the error output about a finished update, and about inputs that are too large.
-use crate::advice::{SHOWN, cause_of, fewer};
+use crate::advice::{SHOWN, cause_in_script, cause_of, fewer};
+use crate::unsearched::note_unsearched;
 use cache_layout::ENTRIES_MAX;
-use command_runs::Status;
+use command_runs::{ScriptKind, Status};
 use device_rules::machine_name;
 use hwcap_dirs::{SYSTEM_DIRS, next_system_dir};
 use image_folder::HeldFile;
-use mtree_manifest::{ManifestFault, TEXT_MAX};
+use mtree_manifest::{MANIFEST_MAX, ManifestFault};
+use script_runs::SCRIPT_MAX;
 use slot_files::Written;
 use standard_streams::{Streams, printable, write_text};
 use std::alloc::AllocError;
 use std::io;
 use std::rt::Runtime;
 use tree_face::NODES_MAX;
-use tree_real::{FolderDisk, FolderStore, Machines};
+use tree_real::{FolderDisk, FolderStore, Machines, StdinSource};
 
 /// Warns about a finished update. Only an update writes a cache.
-pub fn note_update<R: Runtime + Streams>(
+pub fn note_update<R: Runtime + AllocGlobal + Streams>(
     rt: &R,
     store: &FolderStore<R>,
-    written: Written,
-) -> io::Result<()> {
+    disk: &mut FolderDisk<R>,
+) -> io::Result<()>
+where
+    R::File: HeldFile,
+{
+    let written = disk.written();
     if written.entries == Some(0) {
         let why = why_none(written.manifest_length, store.begun());
         let line = format!(in rt.alloc(); "ldconfig: etc/ld.so.cache: no libraries: {why}\n")?;
         write_text(rt, line.as_str())?;
+        if store.begun() == 0 {
+            note_unsearched(rt, disk)?;
+        }
     }
     note_fewer(rt, "etc/ld.so.cache", written)?;
     if !store.has_read_conf() {
@@ -99,7 +108,7 @@ pub fn note_size<R: Runtime + Streams>(
     length: Option<u64>,
 ) -> io::Result<()> {
     let alloc = rt.alloc();
-    let (most_entries, most_nodes, most_bytes) = (ENTRIES_MAX, NODES_MAX, TEXT_MAX);
+    let (most_entries, most_nodes, most_bytes) = (ENTRIES_MAX, NODES_MAX, MANIFEST_MAX);
     let line = match status {
         Status::TooMany { count } => format!(in alloc;
             "ldconfig: etc/ld.so.cache: the image has {count} libraries, and a cache at most {most_entries}\n"
@@ -121,6 +130,9 @@ pub fn note_size<R: Runtime + Streams>(
     write_text(rt, line.as_str())
 }
 
+// Why a node isn't taken whose path goes on below a file or a link.
+const BELOW_NO_DIRECTORY: &str = "it would put something below a file or a link";
+
 /// Says what is wrong with a line of the manifest, and shows its beginning.
 pub fn note_manifest<R: Runtime + AllocGlobal + Streams>(
     rt: &R,
@@ -139,20 +151,83 @@ where
     let too_many = too_many(rt)?;
     let cause = match (kind, fault) {
         (Some(kind), _) => cause_of(kind, &line),
-        (None, ManifestFault::Clash { .. }) => "something would stand below a file or a link",
+        (None, ManifestFault::Clash { .. }) => BELOW_NO_DIRECTORY,
         (None, _) => too_many.as_str(),
     };
-    let shown = escaped(rt, &line)?;
-    let dots = if line.len() > SHOWN { ".." } else { "" };
+    let quoted = quoted(rt, &line)?;
     let lines = format!(in rt.alloc();
-        "ldconfig: image.mtree: line {number}: {cause}: {shown}{dots}\nldconfig: docs/FORMATS.md says what a line may be\n"
+        "ldconfig: image.mtree:{number}: {cause}: {quoted}: docs/FORMATS.md says what a line may be\n"
     )?;
     write_text(rt, lines.as_str())
+}
+
+/// Says what is wrong with a line of the script, and shows its beginning if the line is kept.
+pub fn note_script<R: Runtime + Streams>(
+    rt: &R,
+    input: &StdinSource<R>,
+    number: u64,
+    kind: ScriptKind,
+) -> io::Result<()> {
+    match kind {
+        ScriptKind::Bad(kind) => note_script_line(rt, input, number, cause_in_script(kind)),
+        ScriptKind::Clash => note_script_line(rt, input, number, BELOW_NO_DIRECTORY),
+        ScriptKind::NotThere => {
+            note_script_line(rt, input, number, "nothing is at the path that it drops")
+        }
+        ScriptKind::Full => {
+            let cause = too_many(rt)?;
+            note_script_line(rt, input, number, cause.as_str())
+        }
+    }
+}
+
+fn note_script_line<R: Runtime + Streams>(
+    rt: &R,
+    input: &StdinSource<R>,
+    number: u64,
+    cause: &str,
+) -> io::Result<()> {
+    let shown = shown_line(rt, input, number)?;
+    let line = format!(in rt.alloc();
+        "ldconfig: standard input:{number}: {cause}{shown}: docs/FORMATS.md says what a line may be\n"
+    )?;
+    write_text(rt, line.as_str())
+}
+
+// What follows the cause: the line in quotation marks, if it is kept.
+fn shown_line<R: Runtime>(
+    rt: &R,
+    input: &StdinSource<R>,
+    number: u64,
+) -> Result<String<R::A>, AllocError> {
+    match input.line(number) {
+        Some(line) => {
+            let quoted = quoted(rt, line)?;
+            format!(in rt.alloc(); ": {quoted}")
+        }
+        None => Ok(String::new(rt.alloc())),
+    }
+}
+
+/// Says that the script is too long.
+pub fn note_long_script<R: Runtime + Streams>(rt: &R) -> io::Result<()> {
+    let most = SCRIPT_MAX;
+    let line = format!(in rt.alloc();
+        "ldconfig: standard input: it has more than {most} bytes: divide the script\n"
+    )?;
+    write_text(rt, line.as_str())
 }
 
 fn too_many<R: Runtime>(rt: &R) -> Result<String<R::A>, AllocError> {
     let most = NODES_MAX;
     format!(in rt.alloc(); "the image would have more than {most} nodes")
+}
+
+// A line in quotation marks, or its beginning followed by two dots.
+fn quoted<R: Runtime>(rt: &R, line: &[u8]) -> Result<String<R::A>, AllocError> {
+    let shown = escaped(rt, line)?;
+    let dots = if line.len() > SHOWN { ".." } else { "" };
+    format!(in rt.alloc(); "\"{shown}\"{dots}")
 }
 
 // The first bytes of a line: what isn't printable ASCII is written as the number of the byte.

@@ -1,10 +1,12 @@
 //! Lines on the error output about an update of a directory.
+use crate::conf_lines::{ConfLines, absent_dir};
 use crate::job::Job;
 use crate::notes::{note_fewer, note_machines};
 use cache_layout::ENTRIES_MAX;
 use command_runs::Status;
 use image_folder::HeldFile;
 use ldconfig_core::Report;
+use ldso_conf::{Conf, Origin};
 use root_words::RootWordsFault;
 use standard_streams::{ErrorLines, Streams, printable, printable_bytes, write_text};
 use std::io;
@@ -31,19 +33,20 @@ pub fn note_root<R: Runtime + Streams>(
     note_machines(rt, store.machines())
 }
 
-/// Reports the problems of a report and, with `-v`, the missing directories and the linker scripts. Lines on the auxiliary cache name its
-/// file as it is given.
+/// Reports the problems of a report and, with `-v`, the missing directories and the linker scripts. Lines about a line of a conf file name it.
+/// Lines on the auxiliary cache name its file as it is given.
 pub fn note_report<R: Runtime + Streams>(
     rt: &R,
     job: &Job<'_, '_>,
     report: &Report,
+    conf: &Conf,
     store: &mut FolderStore<R>,
 ) -> io::Result<()>
 where
     R::File: HeldFile,
 {
     let mut lines = ErrorLines::new(rt);
-    let added = add_report(&mut lines, job, report, store);
+    let added = add_report(&mut lines, job, report, conf, store);
     lines.write()?;
     added
 }
@@ -52,16 +55,24 @@ fn add_report<R: Runtime + Streams>(
     lines: &mut ErrorLines<'_, R>,
     job: &Job<'_, '_>,
     report: &Report,
+    conf: &Conf,
     store: &mut FolderStore<R>,
 ) -> io::Result<()>
 where
     R::File: HeldFile,
 {
+    let mut conf_lines = ConfLines::new(conf);
     for bytes in report.text.as_bytes().split(|b| *b == b'\n') {
         let line = text_of(lines.rt(), bytes)?;
         let line = line.as_str();
         if let Some(damage) = line.strip_prefix("aux: ") {
             add_damage(lines, job.aux.path.unwrap_or(""), damage)?;
+        } else if let Some(fault) = line.strip_prefix("conf: ") {
+            let origin = conf_lines.next(bytes);
+            // If a directory of the conf file is missing, that isn't a problem.
+            if job.verbose || absent_dir(bytes).is_none() {
+                add_conf(lines, origin, fault)?;
+            }
         } else if is_shown(job, line) && (job.verbose || !is_script(store, line)) {
             add_line(lines, job.target.front(), line)?;
         }
@@ -90,18 +101,25 @@ fn add_damage<R: Runtime + Streams>(
     lines.add(line.as_str())
 }
 
-// Whether a line is shown. If a directory of the conf file is missing, that isn't a problem. In a directory of this machine, a link that
-// leads to no file of its tree may lead to another file of this machine.
-fn is_shown(job: &Job<'_, '_>, line: &str) -> bool {
-    if line.starts_with("dangling: ") {
-        !job.target.is_of_machine
-    } else {
-        job.verbose || !is_absent(line)
-    }
+// Adds a line on what can't be used of the conf files, after the line of the file that it is about.
+fn add_conf<R: Runtime + Streams>(
+    lines: &mut ErrorLines<'_, R>,
+    origin: Option<&Origin>,
+    fault: &str,
+) -> io::Result<()> {
+    let Some(origin) = origin else {
+        return add_problem(lines, fault, "");
+    };
+    let file = text_of(lines.rt(), origin.file.as_bytes())?;
+    let (file, number) = (file.as_str(), origin.line);
+    let text = format!(in lines.rt().alloc(); "{file}:{number}: {fault}")?;
+    add_problem(lines, text.as_str(), "")
 }
 
-fn is_absent(line: &str) -> bool {
-    line.starts_with("conf: ") && line.ends_with(": Absent")
+// Whether a line is shown. In a directory of this machine, a link that leads to no file of its tree may lead to another file of this
+// machine.
+fn is_shown(job: &Job<'_, '_>, line: &str) -> bool {
+    !line.starts_with("dangling: ") || !job.target.is_of_machine
 }
 
 // Whether a line is about a linker script, a text file with a library's name.
@@ -121,8 +139,7 @@ fn no_elf_file(line: &str) -> Option<&str> {
 }
 
 // The lines of a report that are problems: how each begins, and the text that is written after its path.
-const PROBLEMS: [(&str, &str); 4] = [
-    ("conf: ", ""),
+const PROBLEMS: [(&str, &str); 3] = [
     ("skip: ", ""),
     (
         "blocked: ",

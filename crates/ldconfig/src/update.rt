@@ -120,7 +120,7 @@ where
     } = devices;
     match check_root(rt.alloc(), &job.parts, folder, store, disk) {
         Ok(changes) => {
-            let _ = note_report(rt, job, &changes.report, store);
+            let _ = note_report(rt, job, &changes.report, &changes.looked.conf, store);
             let mut output = StdoutSink::new(rt.clone()?);
             let status = put_changes(rt.alloc(), job, &changes, disk.cache_file(), &mut output)?;
             Ok(status.code())
@@ -194,7 +194,7 @@ where
     match update_root(rt.alloc(), &job.parts, folder, store, disk, Tag(0)) {
         Ok(updated) => {
             // If a line can't be written, nothing changes.
-            let _ = note_report(rt, job, &updated.report, store);
+            let _ = note_report(rt, job, &updated.report, &updated.looked.conf, store);
             let _ = note_root(rt, store, disk);
             let mut output = StdoutSink::new(rt.clone()?);
             let status = if put_listing(

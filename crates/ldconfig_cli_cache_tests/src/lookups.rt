@@ -2,7 +2,7 @@
 use crate::run::{assert_faults, assert_run, disk_with};
 use cache_reader::CacheDefect;
 use command_runs::Status;
-use command_runs_fixture::{EMPTY_CACHE, ONE_CACHE, Setting, THREE_CACHE};
+use command_runs_fixture::{EMPTY_CACHE, ONE_CACHE, ONE_SEPARATE, Setting, THREE_CACHE};
 use std::alloc::Global;
 use std::test::Fail;
 
@@ -14,6 +14,8 @@ fn names_are_looked_up(rt: HostRuntime) -> Result<(), Fail> {
     let disk = disk_with(Some(ONE_CACHE));
     let path = b"/usr/lib/libz.so.1\n";
     assert_run(&rt, alloc, disk, LIBZ, Status::Done, path)?;
+    let separate = disk_with(Some(ONE_SEPARATE));
+    assert_run(&rt, alloc, separate, LIBZ, Status::Done, path)?;
     for arguments in [
         ["lookup", "libz.so.2", "--abi", "x86-64"],
         ["lookup", "libz.so.1", "--abi", "aarch64"],
@@ -58,9 +60,9 @@ fn files_without_a_cache_are_refused(rt: HostRuntime) -> Result<(), Fail> {
     let alloc = rt.alloc();
     let none = disk_with(None);
     assert_run(&rt, alloc, none, LIBZ, Status::NoCache, b"fault: NoCache\n")?;
-    let cut = disk_with(Some(&ONE_CACHE[..169]));
-    let status = Status::BadCache(CacheDefect::BadExtension { offset: 104 });
-    let line = b"fault: BadCache: BadExtension 104\n";
+    let cut = disk_with(Some(&ONE_CACHE[..157]));
+    let status = Status::BadCache(CacheDefect::BadExtension { offset: 92 });
+    let line = b"fault: BadCache: BadExtension 92\n";
     assert_run(&rt, alloc, cut, LIBZ, status, line)
 }
 

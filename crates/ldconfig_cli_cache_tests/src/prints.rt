@@ -2,7 +2,7 @@
 use crate::run::{assert_faults, assert_run, disk_with};
 use cache_reader::CacheDefect;
 use command_runs::Status;
-use command_runs_fixture::ONE_CACHE;
+use command_runs_fixture::{ONE_CACHE, ONE_SEPARATE};
 use std::test::Fail;
 
 const ONE_PRINT: &[u8] = b"1 libs found in cache `/etc/ld.so.cache'\n\
@@ -16,6 +16,8 @@ fn caches_are_printed(rt: HostRuntime) -> Result<(), Fail> {
     let alloc = rt.alloc();
     let disk = disk_with(Some(ONE_CACHE));
     assert_run(&rt, alloc, disk, PRINT, Status::Done, ONE_PRINT)?;
+    let separate = disk_with(Some(ONE_SEPARATE));
+    assert_run(&rt, alloc, separate, PRINT, Status::Done, ONE_PRINT)?;
     assert_run(&rt, alloc, disk, &["-p"], Status::Done, ONE_PRINT)
 }
 
@@ -53,9 +55,9 @@ fn files_without_a_cache_are_refused(rt: HostRuntime) -> Result<(), Fail> {
         let status = Status::BadCache(*defect);
         assert_run(&rt, alloc, disk_with(Some(*cache)), PRINT, status, *line)?;
     }
-    let cut = disk_with(Some(&ONE_CACHE[..169]));
-    let status = Status::BadCache(CacheDefect::BadExtension { offset: 104 });
-    let line = b"fault: BadCache: BadExtension 104\n";
+    let cut = disk_with(Some(&ONE_CACHE[..157]));
+    let status = Status::BadCache(CacheDefect::BadExtension { offset: 92 });
+    let line = b"fault: BadCache: BadExtension 92\n";
     assert_run(&rt, alloc, cut, PRINT, status, line)
 }
 

@@ -79,7 +79,7 @@ const CODES: &[(Status, u8)] = &[
         },
         4,
     ),
-    (Status::TooMany { count: 131073 }, 9),
+    (Status::TooMany { count: 262145 }, 9),
     (Status::StoreFault, 10),
     (Status::DiskFault, 11),
     (Status::InputFault, 12),

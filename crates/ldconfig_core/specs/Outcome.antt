@@ -6,7 +6,7 @@ use Rattle.cache_layout.specs.declared.limits.TheConstants.{ENTRIES_MAX}
 use Rattle.elf_dynamic.specs.Begun.{lacks_one}
 use Rattle.ldso_conf.specs.Reading.{conf_lacks}
 use Rattle.mtree_manifest.specs.Canon.{canon}
-use Rattle.mtree_manifest.specs.declared.fault.TheConstants.{TEXT_MAX}
+use Rattle.mtree_manifest.specs.declared.fault.TheConstants.{MANIFEST_MAX}
 use Rattle.soname_links.specs.Apply.{nodes_with}
 use Rattle.link_plan.specs.declared.kinds.Planned.{Planned}
 use Rattle.tree_face.specs.Store.{Contents}
@@ -38,7 +38,7 @@ new_manifest scope held s = manifest_with scope s.edited (planned_in scope held 
 
 abbrev pub is_too_long : Option (List ℕ) → Bool
 is_too_long None = false
-is_too_long (Some text) = nat_lt TEXT_MAX (length text)
+is_too_long (Some text) = nat_lt MANIFEST_MAX (length text)
 
 abbrev pub size_of : Option (List ℕ) → ℕ
 size_of None = 0

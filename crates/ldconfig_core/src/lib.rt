@@ -8,5 +8,5 @@ mod report;
 
 pub use fault::UpdateFault;
 pub use image::update;
-pub use preparing::{Looked, Prepared, prepare};
+pub use preparing::{Looked, Prepared, prepare, prepare_found};
 pub use report::Report;

@@ -30,7 +30,7 @@ use ldso_conf::Conf;
 use lib_types::{Entries, NoMemory};
 use library_search::{Found, find};
 use link_plan::Plan;
-use mtree_manifest::TEXT_MAX;
+use mtree_manifest::MANIFEST_MAX;
 use place_libraries::PlaceBests;
 use std::alloc::Global;
 use tree_face::{Store, Tree};
@@ -77,7 +77,7 @@ fn image_manifest(
         return Ok(None);
     }
     let text = mtree_manifest::write(alloc, tree)?;
-    if text.len() > TEXT_MAX {
+    if text.len() > MANIFEST_MAX {
         return Err(UpdateFault::TooLarge {
             nodes: tree.len() as u64,
             bytes: text.len() as u64,
@@ -195,8 +195,11 @@ fn aux_of(alloc: Global, stamps: &Stamps) -> Result<Vec<u8>, NoMemory>
     aux_cache::write(alloc, stamps)
 }
 
-// Builds the texts from the results of the search in the tree with its planned links.
-fn make(
+/// Builds the texts of an update from the results of its search, in the tree with the planned links. `edited` says whether the tree was
+/// edited before the update, and `damaged` where the loaded auxiliary cache is malformed.
+///
+/// `found` is from a search of this tree, or of a tree that has the same in the search directories.
+pub fn prepare_found(
     alloc: Global,
     scope: &Scope,
     tree: &Tree,
@@ -259,7 +262,7 @@ pub fn prepare<S: Store>(
     let found = find(alloc, scope, &mut image.tree, store, &image.stamps)?;
     // The loaded stamps are no longer needed. Free them before building the output.
     image.stamps = Stamps::new(alloc);
-    let prepared = make(
+    let prepared = prepare_found(
         alloc,
         scope,
         &image.tree,

@@ -1,5 +1,6 @@
 pub mod Advances
 pub mod Answered
+pub mod InTurn
 pub mod MatchesKept
 pub mod Objects
 pub mod OneRequest

@@ -40,6 +40,25 @@ pub struct Scope {
     pub listing: Listing,
 }
 
+/// Why there is no program at a path.
+#[derive(Clone, Copy, Debug, PartialEq, Eq)]
+pub enum ProgramFault {
+    /// The path leads to no file.
+    NoProgram,
+    /// The first defect of the file.
+    BadProgram(Defect),
+}
+
+/// A path with the listing of the program there, or why there is no program.
+#[derive(Drop)]
+pub struct ProgramListing {
+    pub path: Text,
+    pub listing: Result<Listing, ProgramFault>,
+}
+
+/// The listings of several programs, in order.
+pub type Listings = Seq<ProgramListing>;
+
 /// Why a program has no listing.
 #[derive(Clone, Copy, Debug, PartialEq, Eq)]
 pub enum ResolveFault {

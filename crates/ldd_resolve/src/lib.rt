@@ -1,6 +1,7 @@
 //! The libraries that a program of an image loads, with their paths, as ldd(1) lists them.
 #![tactic(auto)]
 
+mod each;
 mod kinds;
 mod loading;
 mod names;
@@ -8,6 +9,9 @@ mod printing;
 mod requests;
 mod resolving;
 
-pub use kinds::{Item, Listing, Member, Members, ResolveFault, Scope};
+pub use each::resolve_each;
+pub use kinds::{
+    Item, Listing, Listings, Member, Members, ProgramFault, ProgramListing, ResolveFault, Scope,
+};
 pub use printing::listing_text;
 pub use resolving::{resolve, scope};

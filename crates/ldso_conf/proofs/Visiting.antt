@@ -10,7 +10,7 @@ use Rattle.image_tree.specs.Tree.{Nodes}
 use Rattle.image_tree.specs.declared.path.TheConstants.{PATH_MAX}
 use Rattle.conf_patterns.specs.Patterns.{Found}
 use Rattle.conf_views.specs.Files.{file_with}
-use Rattle.ldso_conf.specs.Reading.{Item, Reports, asked, begun, included, included_by, named, place_in, reported, steps_in, was_read, with_steps}
+use Rattle.ldso_conf.specs.Reading.{Item, Reports, asked, begun, included, included_by, named, place_in, reported, reported_at, steps_in, was_read, with_steps}
 use Rattle.ldso_conf.specs.Steps.{steps_of}
 use Rattle.ldso_conf.specs.Visits.{Progress, HasContent, HasEnded, HasLoaded, HasTaken, IsToBeginAs, with_begun, with_dir, with_items, with_read, with_report}
 use Rattle.ldso_conf.specs.declared.kinds.ConfKind.TheVariants.{NotFile, Repeated, TooDeep, TooLarge, LongPath}
@@ -30,7 +30,7 @@ pub take_dir : (r new : Progress) (dir : List ℕ) (origin : Origin) → new ≡
 take_dir r new dir origin e =
     by_test {P = HasTaken (named dir origin ∷ []) r new} (nat_le (length dir) PATH_MAX)
     (λ short. rw short record { held = refl; reader = (rw short at e) ∙ sym (rw (append-nil r.reports, append-nil r.read, add-zero r.files) refl) })
-    (λ long. rw long (take_report r new (reported dir LongPath) (rw long at e)))
+    (λ long. rw long (take_report r new (reported_at origin dir LongPath) (rw long at e)))
 
 pub dir_files : (r new : Progress) (dir : List ℕ) (origin : Origin) → new ≡ with_dir r dir origin → new.files ≡ r.files
 dir_files r new dir origin e =
@@ -61,11 +61,11 @@ module _ (left : ℕ) (r : Progress) (f : Found) (there : Option (List ℕ)) whe
 
 -- ---- a file that is opened
 
-some_by : (b : Bool) (x y : List ℕ) → Some y ≡ cond b (Some x) None → (b ≡ true) × (y ≡ x)
+pub some_by : (b : Bool) (x y : List ℕ) → Some y ≡ cond b (Some x) None → (b ≡ true) × (y ≡ x)
 some_by true x y e = let same : y ≡ x = cc in (refl, same)
 some_by false x y e = absurd (cc)
 
-none_by : (b : Bool) (x : List ℕ) → None ≡ cond b (Some x) None → b ≡ false
+pub none_by : (b : Bool) (x : List ℕ) → None ≡ cond b (Some x) None → b ≡ false
 none_by true x e = absurd (cc)
 none_by false x e = refl
 

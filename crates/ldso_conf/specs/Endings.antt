@@ -22,7 +22,7 @@ abbrev pub fault_of : ViewFault → ReadFault
 fault_of view.Unseen = read.Unseen
 fault_of view.NoMemory = read.NoMemory
 
--- a view that doesn't answer is no fault of the store
+-- if a view doesn't answer, the store has not failed
 abbrev pub read_ending_by : ReadFault → Ending
 read_ending_by read.StoreFault = DeviceFailed
 read_ending_by read.Unseen = GaveUp
@@ -31,3 +31,9 @@ read_ending_by read.NoMemory = GaveUp
 abbrev pub read_ending : {A : Type 0} → Result A ReadFault → Ending
 read_ending (Ok value) = Complete
 read_ending (Err fault) = read_ending_by fault
+
+-- What was done since a view, if the reading stopped: the view didn't answer, or something else failed after calls that answered.
+abbrev pub StopsBy : {V : Type 0} → (V → V → Type 0) → (ViewFault → V → V → Type 0) → ReadFault → V → V → Type 0
+StopsBy since fails read.StoreFault start now = since start now
+StopsBy since fails read.Unseen start now = fails view.Unseen start now
+StopsBy since fails read.NoMemory start now = fails view.NoMemory start now

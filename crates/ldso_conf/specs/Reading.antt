@@ -33,8 +33,13 @@ pub data Item : Type 0 where
 
 -- ---- what the items say
 
+-- a report about a whole file
 abbrev pub reported : List ℕ → ConfKind → ConfReport
-reported place kind = record { place = place; kind = kind }
+reported place kind = record { place = place; kind = kind; origin = None }
+
+-- a report about a line
+abbrev pub reported_at : Origin → List ℕ → ConfKind → ConfReport
+reported_at origin place kind = record { place = place; kind = kind; origin = Some origin }
 
 abbrev pub dir_in : Item → List (List ℕ)
 dir_in (Names dir origin) = dir ∷ []
@@ -92,7 +97,7 @@ is_missing (Misses f key) = true
 
 -- a directory of at most 4095 bytes
 abbrev pub named : List ℕ → Origin → Item
-named dir origin = if nat_le (length dir) PATH_MAX then Names dir origin else Reports (reported dir LongPath)
+named dir origin = if nat_le (length dir) PATH_MAX then Names dir origin else Reports (reported_at origin dir LongPath)
 
 -- where a directory of the command line is named (ldconfig(8): -n): in no file
 abbrev pub command_line : Origin

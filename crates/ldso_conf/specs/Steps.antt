@@ -14,8 +14,9 @@ use Rattle.ldso_conf.specs.declared.kinds.Origin.{Origin}
 use Rattle.ldso_conf.specs.declared.steps.Step.{Step}
 use Rattle.ldso_conf.specs.declared.steps.Step.TheVariants.{Directory, Report, Include}
 
-abbrev pub reported : List ℕ → ConfKind → Step
-reported place kind = Report (record { place = place; kind = kind })
+-- a report about a line
+abbrev pub reported : Origin → List ℕ → ConfKind → Step
+reported origin place kind = Report (record { place = place; kind = kind; origin = Some origin })
 
 -- ---- a directory
 
@@ -34,11 +35,11 @@ origin_at file line = record { file = file; line = line }
 abbrev pub named : Origin → List ℕ → List Step
 named origin text =
     if length text == 0 then [] else
-    if is_absolute text then Directory (without_slashes text) origin ∷ [] else reported text Relative ∷ []
+    if is_absolute text then Directory (without_slashes text) origin ∷ [] else reported origin text Relative ∷ []
 
 abbrev pub directory_steps : Origin → List ℕ → List Step
 directory_steps origin text =
-    if list_any (is_in equals) text then reported (before_equals text) Equals ∷ named origin (before_equals text) else named origin text
+    if list_any (is_in equals) text then reported origin (before_equals text) Equals ∷ named origin (before_equals text) else named origin text
 
 -- ---- the lines
 
@@ -51,7 +52,7 @@ include_steps t file patterns = flat_map (λ pattern. map included (files t file
 -- the steps of a line, given the arguments of `include` and those of `hwcap`, if it has them
 abbrev pub steps_by : Nodes → Origin → List ℕ → Option (List ℕ) → Option (List ℕ) → List Step
 steps_by t origin text (Some patterns) words = include_steps t origin.file patterns
-steps_by t origin text None (Some words) = reported origin.file Hwcap ∷ []
+steps_by t origin text None (Some words) = reported origin origin.file Hwcap ∷ []
 steps_by t origin text None None = directory_steps origin text
 
 abbrev pub text_steps : Nodes → Origin → List ℕ → List Step

@@ -8,7 +8,9 @@ use Rattle.image_tree.specs.Tree.{Nodes}
 use Rattle.image_tree.specs.declared.path.TheConstants.{PATH_MAX}
 use Rattle.conf_patterns.specs.Patterns.{Found}
 use Rattle.conf_views.specs.Files.{file_with}
-use Rattle.ldso_conf.specs.Reading.{Item, bytes_taken, dir_in, included, is_missing, key_begun, origin_in, place_in, report_in, reported, steps_in, until_missing, was_read}
+use Rattle.conf_views.specs.View.{LooksBut, LooksUp, ViewState}
+use Rattle.ldso_conf.specs.Looked.{patterns_listed, patterns_looked}
+use Rattle.ldso_conf.specs.Reading.{Item, bytes_taken, dir_in, included, is_missing, key_begun, origin_in, place_in, report_in, reported_at, steps_in, until_missing, was_read}
 use Rattle.ldso_conf.specs.declared.kinds.Conf.{Conf}
 use Rattle.ldso_conf.specs.declared.kinds.ConfKind.TheVariants.{LongPath}
 use Rattle.ldso_conf.specs.declared.kinds.ConfReport.{ConfReport}
@@ -33,7 +35,7 @@ abbrev pub with_report : Progress → ConfReport → Progress
 with_report r report = record r { reports = r.reports ++ report ∷ [] }
 
 abbrev pub with_dir : Progress → List ℕ → Origin → Progress
-with_dir r dir origin = if nat_le (length dir) PATH_MAX then record r { dirs = r.dirs ++ dir ∷ []; origins = r.origins ++ origin ∷ [] } else with_report r (reported dir LongPath)
+with_dir r dir origin = if nat_le (length dir) PATH_MAX then record r { dirs = r.dirs ++ dir ∷ []; origins = r.origins ++ origin ∷ [] } else with_report r (reported_at origin dir LongPath)
 
 abbrev pub with_read : Progress → List ℕ → Progress
 with_read r place = record r { read = r.read ++ place ∷ [] }
@@ -132,3 +134,12 @@ pub record IsDone (whole rest : List Item) (start now : Progress) (old new : Sto
 abbrev pub IsDoneIn : Option Contents → (Contents → List Item) → (Contents → List Item) → Progress → Progress → StoreState → StoreState → Type 0
 IsDoneIn None whole rest start now old new = ReadsFiles ⊥ None None Complete old new
 IsDoneIn (Some held) whole rest start now old new = IsDone (whole held) (rest held) start now old new
+
+-- ---- what the patterns of the items look up
+
+abbrev pub LooksFor : Nodes → List Item → ViewState → ViewState → Type 0
+LooksFor t items old new = LooksUp (patterns_looked t items) (patterns_listed t items) old new
+
+-- these items are left
+abbrev pub LooksTo : Nodes → List Item → List Item → ViewState → ViewState → Type 0
+LooksTo t whole left old new = LooksBut (patterns_looked t whole) (patterns_looked t left) (patterns_listed t whole) (patterns_listed t left) old new

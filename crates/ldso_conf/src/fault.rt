@@ -1,6 +1,7 @@
 //! Why the conf file isn't read.
 ghost use Rattle.std.specs.Prelude.{◌≡◌};
 ghost use Rattle.ldso_conf.specs.Endings.{fault_of};
+ghost use Rattle.ldso_conf.specs.declared.fault.ConfFault.TheVariants as conf_faults;
 ghost use Rattle.ldso_conf.specs.declared.fault.ReadFault.TheVariants as faults;
 
 use conf_views::ViewFault;
@@ -13,6 +14,14 @@ pub enum ConfFault {
     /// The content of a conf file can't be read.
     StoreFault,
     NoMemory,
+}
+
+impl From<NoMemory> for ConfFault {
+    ghost from_gives = { λ _ e. e ≡ conf_faults.NoMemory };
+
+    fn from(_: NoMemory) -> Self {
+        ConfFault::NoMemory
+    }
 }
 
 /// Why the conf file isn't read in a view of a tree.

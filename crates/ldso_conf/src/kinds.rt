@@ -27,6 +27,8 @@ pub enum ConfKind {
 pub struct ConfReport {
     pub place: Text,
     pub kind: ConfKind,
+    /// The file and line that it is about, unless it is about a whole file.
+    pub origin: Option<Origin>,
 }
 
 /// A list of reports.

@@ -53,11 +53,16 @@ impl Reader {
         self.reports.push(report)
     }
 
-    /// Adds a report about this path.
+    /// Adds a report about the file of this path.
     pub(crate) fn report(&mut self, place: Text, kind: ConfKind) -> Result<(), NoMemory>
         ensures { OnOk result (self.new ≡ with_report self.old (reported place kind)) }
     {
-        self.add_report(ConfReport { place, kind })
+        let origin = None;
+        self.add_report(ConfReport {
+            place,
+            kind,
+            origin,
+        })
     }
 
     /// Adds a directory, or reports it if it is too long.
@@ -65,7 +70,11 @@ impl Reader {
         ensures { OnOk result (self.new ≡ with_dir self.old dir origin) }
     {
         if dir.as_bytes().len() > PATH_MAX {
-            return self.report(dir, ConfKind::LongPath);
+            return self.add_report(ConfReport {
+                place: dir,
+                kind: ConfKind::LongPath,
+                origin: Some(origin),
+            });
         }
         self.dirs.push(dir)?;
         self.origins.push(origin)

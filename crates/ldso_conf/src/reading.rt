@@ -1,11 +1,12 @@
 //! The reading of the conf file, with the files that it includes.
-ghost use Rattle.std.specs.Prelude.{◌≡◌, ◌≤◌, ◌-◌, ◌+◌, None, false, length, All, IfOk, IsErrOf, OnOk};
+ghost use Rattle.std.specs.Prelude.{◌≡◌, ◌≤◌, ◌-◌, ◌+◌, ◌∷◌, [], None, false, length, All, IfErr, IfOk, IsErrOf, OnOk};
 ghost use Rattle.lib_types.specs.Counts.{raised};
 ghost use Rattle.tree_face.specs.Known.{IfKnown};
-ghost use Rattle.conf_views.specs.View.{IsSameView};
-ghost use Rattle.ldso_conf.specs.Endings.{read_ending};
+ghost use Rattle.conf_views.specs.View.{IsSameView, LooksUp};
+ghost use Rattle.ldso_conf.specs.Endings.{StopsBy, read_ending};
+ghost use Rattle.ldso_conf.specs.Looked.{items_listed, items_looked};
 ghost use Rattle.ldso_conf.specs.Reading.{begun, included, reported, was_read, ConfFile as ConfFileAt, IsConfOf, ReadsConf};
-ghost use Rattle.ldso_conf.specs.Visits.{with_report, HasLoaded, HasTaken, IsToBegin, ReadsAny, ReadsFile, ReadsItems};
+ghost use Rattle.ldso_conf.specs.Visits.{with_report, HasLoaded, HasTaken, IsToBegin, LooksFor, ReadsAny, ReadsFile, ReadsItems};
 ghost use Rattle.ldso_conf.specs.declared.fault.ReadFault.TheVariants as faults;
 
 use crate::content::content_of;
@@ -83,8 +84,12 @@ fn load<V: TreeView, S: Store>(
     ensures files { IfOk result (λ _. reader.new.files ≡ reader.old.files + 1) }
     ensures begun { IfOk result (λ _. (S.state store.new).begun ≡ raised (S.state store.old).begun 1) }
     ensures reads { ReadsFile key.now (S.state store.old).held (read_ending result) (S.state store.old) (S.state store.new) }
+    ensures looks { OnOk result (V.knows view.old → IfKnown (S.state store.old).held
+        (λ held. LooksFor (V.state view.old).tree (begun (file.spelled, file.real) key.now (held key.now) ∷ []) (V.state view.old) (V.state view.new))) }
     ensures knows { OnOk result (V.knows view.old → V.knows view.new) }
     ensures view { IsSameView (V.state view.old) (V.state view.new) }
+    ensures since { OnOk result ((start : V) → V.since start view.old → V.since start view.new) }
+    ensures stops { IfErr result (λ fault. (start : V) → V.since start view.old → StopsBy V.since V.fails fault start view.new) }
     ensures unseen { IsErrOf result faults.Unseen → (V.state view.old).whole ≡ false }
 {
     reader.count_file()?;
@@ -113,8 +118,12 @@ fn visit<V: TreeView, S: Store>(
     ensures reads { V.knows view.old → ReadsItems (λ held. included (V.state view.old).tree held left reader.old.read file) (S.state store.old).held
         (read_ending result) (S.state store.old) (S.state store.new) }
     ensures any { ReadsAny (S.state store.old).held (read_ending result) (S.state store.old) (S.state store.new) }
+    ensures looks { OnOk result (V.knows view.old → IfKnown (S.state store.old).held
+        (λ held. LooksFor (V.state view.old).tree (included (V.state view.old).tree held left reader.old.read file) (V.state view.old) (V.state view.new))) }
     ensures knows { OnOk result (V.knows view.old → V.knows view.new) }
     ensures view { IsSameView (V.state view.old) (V.state view.new) }
+    ensures since { OnOk result ((start : V) → V.since start view.old → V.since start view.new) }
+    ensures stops { IfErr result (λ fault. (start : V) → V.since start view.old → StopsBy V.since V.fails fault start view.new) }
     ensures unseen { IsErrOf result faults.Unseen → (V.state view.old).whole ≡ false }
 {
     let FoundFile { spelled, real, key } = file;
@@ -148,8 +157,12 @@ pub fn read_conf_in<V: TreeView, S: Store>(
     ensures begun { IfOk result (λ conf. (S.state store.new).begun ≡ raised (S.state store.old).begun conf.files) }
     ensures reads { V.knows view.old → ReadsConf (ConfFileAt path.now) (V.state view.old).tree (read_ending result) (S.state store.old) (S.state store.new) }
     ensures any { ReadsAny (S.state store.old).held (read_ending result) (S.state store.old) (S.state store.new) }
+    ensures looks { OnOk result (V.knows view.old → IfKnown (S.state store.old).held (λ held. LooksUp (items_looked (ConfFileAt path.now) held (V.state view.old).tree)
+        (items_listed (ConfFileAt path.now) held (V.state view.old).tree) (V.state view.old) (V.state view.new))) }
     ensures knows { OnOk result (V.knows view.old → V.knows view.new) }
     ensures view { IsSameView (V.state view.old) (V.state view.new) }
+    ensures since { OnOk result ((start : V) → V.since start view.old → V.since start view.new) }
+    ensures stops { IfErr result (λ fault. (start : V) → V.since start view.old → StopsBy V.since V.fails fault start view.new) }
     ensures unseen { IsErrOf result faults.Unseen → (V.state view.old).whole ≡ false }
 {
     let mut reader = Reader::new(alloc);

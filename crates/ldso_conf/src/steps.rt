@@ -1,7 +1,10 @@
 //! What the lines of a conf file ask for.
-ghost use Rattle.std.specs.Prelude.{◌≡◌, ◌∷◌, ◌++◌, [], false, map, IfOk, IsErrOf, OnOk};
-ghost use Rattle.conf_views.specs.View.{IsSameView};
+ghost use Rattle.std.specs.Prelude.{◌≡◌, ◌∷◌, ◌++◌, [], false, map, flat_map, IfErr, IfOk, IsErrOf, OnOk};
+ghost use Rattle.conf_views.specs.Patterns.{results_listed, results_looked};
+ghost use Rattle.conf_views.specs.View.{IsSameView, LooksUp};
 ghost use Rattle.conf_views.specs.declared.fault.ViewFault.TheVariants as faults;
+ghost use Rattle.ldso_conf.specs.Lines.{arguments_of, include, words_of};
+ghost use Rattle.ldso_conf.specs.Looked.{file_paths, include_paths};
 ghost use Rattle.ldso_conf.specs.Steps.{directory_steps, include_steps, named, origin_at, reported, steps_of, text_steps, without_slashes};
 ghost use Rattle.ldso_conf.specs.declared.steps.Step.TheVariants as step;
 
@@ -21,16 +24,23 @@ pub(crate) enum Step {
     Include(FoundFile),
 }
 
+// Adds a report about a line.
 fn add_report(
     alloc: Global,
     place: &[u8],
     kind: ConfKind,
+    origin: Origin,
     steps: &mut Vec<Step>,
 ) -> Result<(), NoMemory>
-    ensures { OnOk result (steps.new.items ≡ steps.old.items ++ reported place.now kind ∷ []) }
+    ensures { OnOk result (steps.new.items ≡ steps.old.items ++ reported origin place.now kind ∷ []) }
 {
     let place = Text::copy_of(alloc, place)?;
-    steps.push(Step::Report(ConfReport { place, kind }))?;
+    let origin = Some(origin);
+    steps.push(Step::Report(ConfReport {
+        place,
+        kind,
+        origin,
+    }))?;
     Ok(())
 }
 
@@ -61,11 +71,11 @@ fn add_named(
     if text.is_empty() {
         return Ok(());
     }
+    let origin = origin_of(alloc, file, line)?;
     if !is_absolute(text) {
-        return add_report(alloc, text, ConfKind::Relative, steps);
+        return add_report(alloc, text, ConfKind::Relative, origin, steps);
     }
     let dir = Text::copy_of(alloc, without_slashes(text))?;
-    let origin = origin_of(alloc, file, line)?;
     steps.push(Step::Directory(dir, origin))?;
     Ok(())
 }
@@ -83,7 +93,8 @@ fn add_directory(
         return add_named(alloc, file, line, text, steps);
     }
     let dir = before_equals(text);
-    add_report(alloc, dir, ConfKind::Equals, steps)?;
+    let origin = origin_of(alloc, file, line)?;
+    add_report(alloc, dir, ConfKind::Equals, origin, steps)?;
     add_named(alloc, file, line, dir, steps)?;
     Ok(())
 }
@@ -107,8 +118,12 @@ fn add_included<V: TreeView>(
     steps: &mut Vec<Step>,
 ) -> Result<(), ViewFault>
     ensures steps { OnOk result (V.knows view.old → steps.new.items ≡ steps.old.items ++ include_steps (V.state view.old).tree file.now patterns.now) }
+    ensures looks { OnOk result (V.knows view.old → LooksUp (flat_map (results_looked (V.state view.old).tree file.now) (words_of patterns.now))
+        (flat_map (results_listed (V.state view.old).tree file.now) (words_of patterns.now)) (V.state view.old) (V.state view.new)) }
     ensures knows { OnOk result (V.knows view.old → V.knows view.new) }
     ensures view { IsSameView (V.state view.old) (V.state view.new) }
+    ensures since { OnOk result ((start : V) → V.since start view.old → V.since start view.new) }
+    ensures fails { IfErr result (λ fault. (start : V) → V.since start view.old → V.fails fault start view.new) }
     ensures unseen { IsErrOf result faults.Unseen → (V.state view.old).whole ≡ false }
 {
     for pattern in split(Separator::In(b" \t"), patterns) {
@@ -129,23 +144,27 @@ fn add_text<V: TreeView>(
     steps: &mut Vec<Step>,
 ) -> Result<(), ViewFault>
     ensures steps { OnOk result (V.knows view.old → steps.new.items ≡ steps.old.items ++ text_steps (V.state view.old).tree (origin_at file.now line) text.now) }
+    ensures looks { OnOk result (V.knows view.old → LooksUp (include_paths (results_looked (V.state view.old).tree) file.now (arguments_of include text.now))
+        (include_paths (results_listed (V.state view.old).tree) file.now (arguments_of include text.now)) (V.state view.old) (V.state view.new)) }
     ensures knows { OnOk result (V.knows view.old → V.knows view.new) }
     ensures view { IsSameView (V.state view.old) (V.state view.new) }
+    ensures since { OnOk result ((start : V) → V.since start view.old → V.since start view.new) }
+    ensures fails { IfErr result (λ fault. (start : V) → V.since start view.old → V.fails fault start view.new) }
     ensures unseen { IsErrOf result faults.Unseen → (V.state view.old).whole ≡ false }
 {
     if let Some(patterns) = arguments_of(b"include", text) {
         return add_included(alloc, view, file, patterns, steps);
     }
     if arguments_of(b"hwcap", text).is_some() {
-        add_report(alloc, file, ConfKind::Hwcap, steps)?;
-        return Ok(());
+        let origin = origin_of(alloc, file, line)?;
+        return Ok(add_report(alloc, file, ConfKind::Hwcap, origin, steps)?);
     }
     add_directory(alloc, file, line, text, steps)?;
     Ok(())
 }
 
 /// The steps of a file of this path and content.
-#[tactic(auto, unfolding(crate::specs::Steps::steps_of))]
+#[tactic(auto, unfolding(crate::specs::Steps::steps_of, crate::specs::Looked::file_paths))]
 pub(crate) fn steps_of<V: TreeView>(
     alloc: Global,
     view: &mut V,
@@ -153,8 +172,12 @@ pub(crate) fn steps_of<V: TreeView>(
     content: &[u8],
 ) -> Result<Vec<Step>, ViewFault>
     ensures steps { IfOk result (λ steps. V.knows view.old → steps.items ≡ steps_of (V.state view.old).tree file.now content.now) }
+    ensures looks { OnOk result (V.knows view.old → LooksUp (file_paths (results_looked (V.state view.old).tree) file.now content.now)
+        (file_paths (results_listed (V.state view.old).tree) file.now content.now) (V.state view.old) (V.state view.new)) }
     ensures knows { OnOk result (V.knows view.old → V.knows view.new) }
     ensures view { IsSameView (V.state view.old) (V.state view.new) }
+    ensures since { OnOk result ((start : V) → V.since start view.old → V.since start view.new) }
+    ensures fails { IfErr result (λ fault. (start : V) → V.since start view.old → V.fails fault start view.new) }
     ensures unseen { IsErrOf result faults.Unseen → (V.state view.old).whole ≡ false }
 {
     let mut steps = Vec::new(alloc);

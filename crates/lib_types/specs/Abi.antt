@@ -1,5 +1,5 @@
 -- The table of ABIs. e_machine, the class and e_flags are from the gABI and its supplements; the cache flags and printed words are from
--- glibc's dl-cache.h and print_entry; $LIB is from ld.so(8); the triplets are Debian's multiarch triplets.
+-- glibc's dl-cache.h and print_entry; $LIB is from ld.so(8); the directories have Debian's multiarch triplets.
 use Rattle.std.specs.Prelude.{◌≡◌, ℕ, List, [], ◌∷◌, ℤ, pos, ◌==◌, ◌&&◌, Option, find, codes, bit_and, Bool}
 use Rattle.std.specs.List.{list_any}
 use Rattle.std.specs.Ordering.{int_eq}
@@ -9,8 +9,8 @@ use Rattle.lib_types.specs.declared.abi.Row.{Row}
 use Rattle.lib_types.specs.declared.abi.Abi.TheVariants.{I386, X86_64, X32, Aarch64, ArmHf, Riscv64D}
 
 -- word: the name in arguments. class: 1 for 32 bits, 2 for 64 bits. mask: the bits of e_flags that are tested. bits: the value they must
--- have. flags: the flags of a cache entry. printed: the text after `libc6` in a printed cache. lib: the value of $LIB. triplet: Debian's
--- subdirectory of the library directories.
+-- have. flags: the flags of a cache entry. printed: the text after `libc6` in a printed cache. lib: the value of $LIB. usr_lib:
+-- Debian's directory of libraries; without `/usr` it is the one in `/lib`.
 pub record AbiRow : Type 0 where
   pub word : List ℕ
   pub machine : ℕ
@@ -20,7 +20,7 @@ pub record AbiRow : Type 0 where
   pub flags : ℕ
   pub printed : List ℕ
   pub lib : List ℕ
-  pub triplet : List ℕ
+  pub usr_lib : List ℕ
 
 abbrev pub row_of : Abi → AbiRow
 row_of I386 = record {
@@ -32,7 +32,7 @@ row_of I386 = record {
   flags = 0x0003;
   printed = [];
   lib = codes "lib";
-  triplet = codes "i386-linux-gnu";
+  usr_lib = codes "/usr/lib/i386-linux-gnu";
 }
 row_of X86_64 = record {
   word = codes "x86-64";
@@ -43,7 +43,7 @@ row_of X86_64 = record {
   flags = 0x0303;
   printed = codes ",x86-64";
   lib = codes "lib64";
-  triplet = codes "x86_64-linux-gnu";
+  usr_lib = codes "/usr/lib/x86_64-linux-gnu";
 }
 row_of X32 = record {
   word = codes "x32";
@@ -54,7 +54,7 @@ row_of X32 = record {
   flags = 0x0803;
   printed = codes ",x32";
   lib = codes "libx32";
-  triplet = codes "x86_64-linux-gnux32";
+  usr_lib = codes "/usr/lib/x86_64-linux-gnux32";
 }
 row_of Aarch64 = record {
   word = codes "aarch64";
@@ -65,7 +65,7 @@ row_of Aarch64 = record {
   flags = 0x0a03;
   printed = codes ",AArch64";
   lib = codes "lib64";
-  triplet = codes "aarch64-linux-gnu";
+  usr_lib = codes "/usr/lib/aarch64-linux-gnu";
 }
 row_of ArmHf = record {
   word = codes "arm-hf";
@@ -76,7 +76,7 @@ row_of ArmHf = record {
   flags = 0x0903;
   printed = codes ",hard-float";
   lib = codes "lib";
-  triplet = codes "arm-linux-gnueabihf";
+  usr_lib = codes "/usr/lib/arm-linux-gnueabihf";
 }
 row_of Riscv64D = record {
   word = codes "riscv64-d";
@@ -87,7 +87,7 @@ row_of Riscv64D = record {
   flags = 0x1003;
   printed = codes ",double-float";
   lib = codes "lib";
-  triplet = codes "riscv64-linux-gnu";
+  usr_lib = codes "/usr/lib/riscv64-linux-gnu";
 }
 
 -- the row in the code equals the row of the specification
@@ -100,7 +100,7 @@ pub record IsRow (r : Row) (row : AbiRow) : Type 0 where
   pub flags : r.flags ≡ pos row.flags
   pub printed : r.printed.now ≡ row.printed
   pub lib : r.lib.now ≡ row.lib
-  pub triplet : r.triplet.now ≡ row.triplet
+  pub usr_lib : r.usr_lib.now ≡ row.usr_lib
 
 abbrev pub abis : List Abi
 abis = I386 ∷ X86_64 ∷ X32 ∷ Aarch64 ∷ ArmHf ∷ Riscv64D ∷ []

@@ -1,25 +1,25 @@
 -- The range of the numbers in a defect, whatever content the store returns.
-use Rattle.std.specs.Prelude.{◌≡◌, ◌≢◌, ◌<◌, ◌⊎◌, ◌^◌, ℕ}
+use Rattle.std.specs.Prelude.{ℕ, Bool, true, false, IsTrue, ◌==◌, ◌&&◌, ◌||◌, not, nat_lt}
 use Rattle.lib_types.specs.declared.analysis.Defect.{Defect}
-use Rattle.lib_types.specs.declared.analysis.Defect.TheVariants.{NotElf, TooShort, BadClass, BadData, BadMachine, NotShared, BadPhdrs, NoDynamic, DynOutside, NoStrtab, OutsideLoad, BadString, BadSoname, Unsearchable}
+use Rattle.lib_types.specs.declared.analysis.Defect.TheVariants.{TooShort, BadClass, BadData, BadMachine, NotShared, BadString, Unsearchable}
 
--- DT_NEEDED, DT_SONAME, DT_RPATH and DT_RUNPATH
+-- DT_NEEDED, DT_SONAME, DT_RPATH and DT_RUNPATH (gABI, "Dynamic Section")
+abbrev pub is_text_tag : ℕ → Bool
+is_text_tag tag = tag == 1 || tag == 14 || tag == 15 || tag == 29
+
+abbrev pub is_in_range : Defect → Bool
+is_in_range (TooShort size) = nat_lt size 64
+is_in_range (BadClass value) = nat_lt value 256 && not (value == 1) && not (value == 2)
+is_in_range (BadData value) = nat_lt value 256 && not (value == 1)
+is_in_range (BadMachine number) = nat_lt number 65536
+is_in_range (NotShared etype) = nat_lt etype 65536 && not (etype == 3)
+is_in_range (BadString tag) = is_text_tag tag
+-- it is about a name, and not about content
+is_in_range Unsearchable = false
+is_in_range _ = true
+
 abbrev pub IsTextTag : ℕ → Type 0
-IsTextTag tag = (tag ≡ 1) ⊎ (tag ≡ 14) ⊎ (tag ≡ 15) ⊎ (tag ≡ 29)
+IsTextTag tag = IsTrue (is_text_tag tag)
 
 abbrev pub IsInRange : Defect → Type 0
-IsInRange NotElf = Unit {0}
-IsInRange (TooShort size) = size < 64
-IsInRange (BadClass value) = (value < 2 ^ 8) × (value ≢ 1) × (value ≢ 2)
-IsInRange (BadData value) = (value < 2 ^ 8) × (value ≢ 1)
-IsInRange (BadMachine number) = number < 2 ^ 16
-IsInRange (NotShared type) = (type < 2 ^ 16) × (type ≢ 3)
-IsInRange BadPhdrs = Unit {0}
-IsInRange NoDynamic = Unit {0}
-IsInRange DynOutside = Unit {0}
-IsInRange NoStrtab = Unit {0}
-IsInRange OutsideLoad = Unit {0}
-IsInRange (BadString tag) = IsTextTag tag
-IsInRange BadSoname = Unit {0}
--- it is about a name, and not about content
-IsInRange Unsearchable = ⊥
+IsInRange defect = IsTrue (is_in_range defect)

@@ -31,8 +31,8 @@ pub struct Row {
     pub printed: &'static [u8],
     /// What `$LIB` represents.
     pub lib: &'static [u8],
-    /// Debian's subdirectory of the library directories for this ABI.
-    pub triplet: &'static [u8],
+    /// Debian's directory of libraries of this ABI. Without its first four bytes it is the one in `/lib`.
+    pub usr_lib: &'static [u8],
 }
 
 /// All ABIs, in the order in which they are looked up.
@@ -60,7 +60,7 @@ impl Abi {
                 flags: 0x0003,
                 printed: b"",
                 lib: b"lib",
-                triplet: b"i386-linux-gnu",
+                usr_lib: b"/usr/lib/i386-linux-gnu",
             },
             Abi::X86_64 => Row {
                 word: b"x86-64",
@@ -71,7 +71,7 @@ impl Abi {
                 flags: 0x0303,
                 printed: b",x86-64",
                 lib: b"lib64",
-                triplet: b"x86_64-linux-gnu",
+                usr_lib: b"/usr/lib/x86_64-linux-gnu",
             },
             Abi::X32 => Row {
                 word: b"x32",
@@ -82,7 +82,7 @@ impl Abi {
                 flags: 0x0803,
                 printed: b",x32",
                 lib: b"libx32",
-                triplet: b"x86_64-linux-gnux32",
+                usr_lib: b"/usr/lib/x86_64-linux-gnux32",
             },
             Abi::Aarch64 => Row {
                 word: b"aarch64",
@@ -93,7 +93,7 @@ impl Abi {
                 flags: 0x0a03,
                 printed: b",AArch64",
                 lib: b"lib64",
-                triplet: b"aarch64-linux-gnu",
+                usr_lib: b"/usr/lib/aarch64-linux-gnu",
             },
             Abi::ArmHf => Row {
                 word: b"arm-hf",
@@ -104,7 +104,7 @@ impl Abi {
                 flags: 0x0903,
                 printed: b",hard-float",
                 lib: b"lib",
-                triplet: b"arm-linux-gnueabihf",
+                usr_lib: b"/usr/lib/arm-linux-gnueabihf",
             },
             Abi::Riscv64D => Row {
                 word: b"riscv64-d",
@@ -115,7 +115,7 @@ impl Abi {
                 flags: 0x1003,
                 printed: b",double-float",
                 lib: b"lib",
-                triplet: b"riscv64-linux-gnu",
+                usr_lib: b"/usr/lib/riscv64-linux-gnu",
             },
         }
     }

@@ -1,7 +1,9 @@
 //! The library's ELF information, or the defect because of which a file isn't a library.
 ghost use Rattle.std.specs.Prelude.{◌≡◌};
 ghost use Rattle.lib_types.specs.Defects.{defect_name, defect_number};
+ghost use Rattle.lib_types.specs.Ranges.{is_in_range};
 
+use crate::elf::{DT_NEEDED, DT_RPATH, DT_RUNPATH, DT_SONAME};
 use crate::{Abi, Text};
 
 /// Why a file isn't a library. A number is the value that the file has in that field.
@@ -59,6 +61,24 @@ impl Defect {
             Defect::NotShared { etype } => Some(etype),
             Defect::BadString { tag } => Some(tag),
             _ => None,
+        }
+    }
+
+    /// Whether a file can have this defect: its number, if it has one, is in the range of the field.
+    pub fn is_in_range(self) -> bool
+        ensures { result ≡ is_in_range self }
+    {
+        match self {
+            Defect::TooShort { length } => length < 64,
+            Defect::BadClass { value } => value < 256 && value != 1 && value != 2,
+            Defect::BadData { value } => value < 256 && value != 1,
+            Defect::BadMachine { number } => number < 65536,
+            Defect::NotShared { etype } => etype < 65536 && etype != 3,
+            Defect::BadString { tag } => {
+                tag == DT_NEEDED || tag == DT_SONAME || tag == DT_RPATH || tag == DT_RUNPATH
+            }
+            Defect::Unsearchable => false,
+            _ => true,
         }
     }
 }

@@ -6,6 +6,9 @@ ghost use Rattle.lib_types.specs.Name.{are_dots, is_name, is_plain_ascii, have_n
 /// The maximum length of a name in bytes (NAME_MAX of limits.h).
 pub const NAME_MAX: usize = 255;
 
+/// The name of the directory, in a directory of libraries, that has the subdirectories for processors (ld.so(8)).
+pub const HWCAPS_DIR: &[u8] = b"glibc-hwcaps";
+
 /// Whether the bytes are a valid name of a file in a directory.
 #[tactic(auto, using(crate::proofs::Plain::plain_bytes))]
 pub fn is_name(bytes: &[u8]) -> bool

@@ -1,5 +1,5 @@
 -- Reading files, without assumptions on stamps. It ends early only if the store fails or a file's content isn't held.
-use Rattle.std.proofs.Common.{◌≡◌, ◌++◌, ◌||◌, if◌then◌else◌, ℕ, Bool, true, false, List, [], ◌∷◌, Option, Some, None, refl, ap, sym, ◌∙◌}
+use Rattle.std.proofs.Common.{◌≡◌, ◌++◌, ◌||◌, if◌then◌else◌, nat_lt, ℕ, Bool, true, false, List, [], ◌∷◌, Option, Some, None, refl, ap, sym, ◌∙◌}
 use Rattle.std.proofs.lemmas.Bool.{or_left, or_right}
 use Rattle.std.specs.List.{before_first, cons_option, filter_map, list_any}
 use Rattle.std.specs.Map.{lookup}
@@ -14,16 +14,23 @@ use Rattle.image_tree.specs.declared.node.Node.{Node}
 use Rattle.image_tree.specs.Tree.{Nodes, node_at}
 use Rattle.ldso_conf.specs.Reading.{conf_lacks}
 use Rattle.lib_types.proofs.SortedPairs.{by_test}
-use Rattle.planned_tree.specs.Search.{IsSearchedAlike}
 use Rattle.file_stamps.specs.Opened.{has_id, ids_at, ids_of, new_key, opened_keys}
 use Rattle.file_stamps.specs.Stamped.{id_at}
+use Rattle.file_stamps.specs.State.{ids_there}
+use Rattle.soname_links.specs.Apply.{nodes_with}
+use Rattle.soname_links.specs.Plan.{with_links}
+use Rattle.image_tree.specs.declared.tree.TheConstants.{NODES_MAX}
+use Rattle.tree_face.specs.Known.{IfKnown}
 use Rattle.tree_face.proofs.StoreUse.{reads_fewer, reads_then}
 use Rattle.tree_face.specs.Store.{Contents, StoreState}
 use Rattle.tree_face.specs.StoreUse.{Ending, Complete, ReadsFiles}
-use Rattle.library_search.proofs.FilesAgree.{key_same}
+use Rattle.library_search.proofs.FilesAgree.{HaveSameFiles, key_by}
 use Rattle.library_search.proofs.KeysBegun.{SearchBy}
+use Rattle.library_search.specs.After.{opened_after, unread_after}
 use Rattle.library_search.specs.Begun.{lacks_some, lacks_wanted, wanted_keys}
 use Rattle.library_search.specs.Ldconfig.{conf_of, wanted_in}
+use Rattle.library_search.specs.Stages.{opened_planned, planned_by}
+use Rattle.library_search.specs.declared.search.Search.{Search}
 
 -- ---- a file of the tree
 
@@ -89,14 +96,28 @@ pub search_any : (scope : Scope) (t : Nodes) (loaded : List Stamp) (e : Ending) 
 search_any scope t loaded e None a b reads = reads
 search_any scope t loaded e (Some held) a b reads = reads_fewer _ _ _ _ e a b (wanted_some scope held t loaded) reads
 
-module _ (scope : Scope) (t : Nodes) (e : Ending) where
-  after_any : (known : Option Contents) (new : Nodes) (ids : List Id) (paths : List (List ℕ)) (b c : StoreState) → IsSearchedAlike t new
-      → ReadsBy known (opened_keys new ids paths) e b c → AnyBy scope t known e b c
-  after_any None new ids paths b c alike reads = reads_fewer _ _ _ _ e b c (λ lacks. lacks) reads
-  after_any (Some held) new ids paths b c alike reads = reads_fewer _ _ _ _ e b c (opened_some scope held t new ids paths (key_same held t new alike)) reads
+-- files with these keys are opened; if one of them is missing, a file of the tree is
+abbrev pub LacksOnly : Scope → Nodes → List (List ℕ) → Contents → Type 0
+LacksOnly scope t keys held = lacks_one held keys ≡ true → lacks_some scope held t ≡ true
 
-pub update_any : (scope : Scope) (t : Nodes) (loaded : List Stamp) (e : Ending) (known : Option Contents) (new : Nodes) (ids : List Id) (paths : List (List ℕ)) (a b c : StoreState) → IsSearchedAlike t new
-    → SearchBy scope t loaded known Complete a b → ReadsBy known (opened_keys new ids paths) e b c → AnyBy scope t known e a c
-update_any scope t loaded e known new ids paths a b c alike first next =
+module _ (scope : Scope) (t : Nodes) (e : Ending) where
+  after_any : (known : Option Contents) (keys : List (List ℕ)) (b c : StoreState) → IfKnown known (LacksOnly scope t keys) → ReadsBy known keys e b c → AnyBy scope t known e b c
+  after_any None keys b c only reads = reads_fewer _ _ _ _ e b c (λ lacks. lacks) reads
+  after_any (Some held) keys b c only reads = reads_fewer _ _ _ _ e b c only reads
+
+pub update_any : (scope : Scope) (t : Nodes) (loaded : List Stamp) (e : Ending) (known : Option Contents) (keys : List (List ℕ)) (a b c : StoreState) → IfKnown known (LacksOnly scope t keys)
+    → SearchBy scope t loaded known Complete a b → ReadsBy known keys e b c → AnyBy scope t known e a c
+update_any scope t loaded e known keys a b c only first next =
     let some : Type 0 = IsSomeAnd known (λ held. lacks_some scope held t ≡ true) in
-    reads_then e a b c some some some None None None None (λ lacks. lacks) (search_any scope t loaded Complete known a b first) (after_any scope t e known new ids paths b c alike next)
+    reads_then e a b c some some some None None None None (λ lacks. lacks) (search_any scope t loaded Complete known a b first) (after_any scope t e known keys b c only next)
+
+-- the link targets that are opened after the links are planned
+pub planned_some : (scope : Scope) (held : Contents) (t : Nodes) (loaded : List Stamp) (search : Search) → HaveSameFiles t (with_links t (planned_by search t))
+    → LacksOnly scope t (opened_planned loaded search t) held
+planned_some scope held t loaded search files = by (nat_lt NODES_MAX (nodes_with t (planned_by search t)))
+  where
+    by : (many : Bool) → lacks_one held (if many then [] else opened_after loaded search.files (with_links t (planned_by search t)) search.dirs) ≡ true → lacks_some scope held t ≡ true
+    by true lacks = absurd (cc)
+    by false lacks =
+        opened_some scope held t (with_links t (planned_by search t)) (ids_there loaded search.files) (unread_after search.files (with_links t (planned_by search t)) search.dirs)
+        (key_by t (with_links t (planned_by search t)) files) lacks

@@ -1,6 +1,6 @@
 -- The analyses that were read for an image's files are right.
-use Rattle.std.proofs.Common.{◌≡◌, ◌||◌, ◌++◌, ℕ, true, false, not, List, [], ◌∷◌, Option, Some, None, refl, ap, sym, ◌∙◌, filter}
-use Rattle.std.proofs.lemmas.Bool.{or_left, or_right}
+use Rattle.std.proofs.Common.{◌≡◌, ◌&&◌, ◌||◌, ◌++◌, ℕ, true, false, not, List, [], ◌∷◌, Option, Some, None, refl, ap, sym, ◌∙◌, filter}
+use Rattle.std.proofs.lemmas.Bool.{and_parts, or_left, or_right}
 use Rattle.std.proofs.lemmas.List.Folds.{list_any-append}
 use Rattle.std.specs.Cmp.Lexicographic.{slice_cmp}
 use Rattle.std.specs.List.{filter_map}
@@ -16,7 +16,8 @@ use Rattle.hwcap_dirs.specs.declared.kinds.Place.{Place}
 use Rattle.lib_types.proofs.SortedPairs.{by_test}
 use Rattle.lib_types.specs.declared.analysis.Analysis.{Analysis}
 use Rattle.string_pool.proofs.InByteOrder.{ascending_sorted, in_ascending}
-use Rattle.string_pool.proofs.Members.{is_in}
+use Rattle.place_libraries.specs.Rows.{AreOfPlaces}
+use Rattle.string_pool.proofs.Members.{is_in, kept_in}
 use Rattle.file_table.specs.Analyses.{AgreeOn, Analyses, HaveAnalyses, unread}
 use Rattle.string_pool.specs.Order.{ascending}
 use Rattle.library_files.specs.Search.{reached, wanted}
@@ -44,6 +45,10 @@ reached_sorted t places = ascending_sorted _
 
 -- ---- trees with the same files
 
+-- each path has the same file in both trees
+abbrev pub HaveSameFiles : Nodes → Nodes → Type 0
+HaveSameFiles t new = (path : List ℕ) → file_in (node_at new path) ≡ file_in (node_at t path)
+
 -- the parts of a file
 key_of : (o : Option Node) → key_in o ≡ option_map (λ file. file.0) (file_in o)
 key_of None = refl
@@ -57,12 +62,19 @@ id_of (Some node.Dir) = refl
 id_of (Some (node.File key id)) = refl
 id_of (Some (node.Link target)) = refl
 
+module _ (t new : Nodes) (files : HaveSameFiles t new) where
+  pub key_by : (path : List ℕ) → key_in (node_at new path) ≡ key_in (node_at t path)
+  key_by path = key_of (node_at new path) ∙ ap (option_map (λ file. file.0)) (files path) ∙ sym (key_of (node_at t path))
+
+  pub id_by : (path : List ℕ) → id_at new path ≡ id_at t path
+  id_by path = id_of (node_at new path) ∙ ap (option_and_then (λ file. file.1)) (files path) ∙ sym (id_of (node_at t path))
+
 module _ (held : Contents) (t new : Nodes) (alike : IsSearchedAlike t new) where
   pub key_same : (path : List ℕ) → key_in (node_at new path) ≡ key_in (node_at t path)
-  key_same path = key_of (node_at new path) ∙ ap (option_map (λ file. file.0)) (alike.files path) ∙ sym (key_of (node_at t path))
+  key_same = key_by t new alike.files
 
   pub id_same : (path : List ℕ) → id_at new path ≡ id_at t path
-  id_same path = id_of (node_at new path) ∙ ap (option_and_then (λ file. file.1)) (alike.files path) ∙ sym (id_of (node_at t path))
+  id_same = id_by t new alike.files
 
   pub content_same : (path : List ℕ) → content_of held new path ≡ content_of held t path
   content_same path = ap (option_and_then held) (key_same path)
@@ -78,6 +90,13 @@ has_row [] path h = absurd (cc)
 has_row (e ∷ rows) path h = by_test (bytes_eq path e.0)
     (λ f. or_left (bytes_eq path e.0) (is_in (keys_of rows) path) f)
     (λ f. or_right (bytes_eq path e.0) (is_in (keys_of rows) path) (has_row rows path (rw f at h)))
+
+-- the table of the search directories' files has no row for another path
+pub rows_only : (t : Nodes) (places : List Place) (rows : Rows) → AreOfPlaces t places rows → (path : List ℕ) → is_in (keys_of rows) path ≡ true → is_in (wanted t places) path ≡ true
+rows_only t places rows are path there =
+    let both : (is_some (analysis_at rows path) && is_in (wanted t places) path) ≡ true =
+    sym (kept_in (λ q. is_some (analysis_at rows q)) path (wanted t places)) ∙ ap (λ l. is_in l path) (sym are) ∙ there in
+    (and_parts (is_some (analysis_at rows path)) (is_in (wanted t places) path) both).1
 
 none_not : (a : Option Analysis) → is_none a ≡ not (is_some a)
 none_not None = refl

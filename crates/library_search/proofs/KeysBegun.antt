@@ -1,29 +1,39 @@
 -- The files that an update opens, part by part.
-use Rattle.std.proofs.Common.{◌≡◌, ◌+◌, ◌++◌, ◌&&◌, ◌||◌, ℕ, Bool, true, false, not, List, [], ◌∷◌, length, refl, Option, Some, None, ap, sym, ◌∙◌, arith}
+use Rattle.std.proofs.Common.{◌≡◌, if◌then◌else◌, ◌+◌, ◌++◌, ◌&&◌, ◌||◌, ℕ, Bool, true, false, not, List, [], ◌∷◌, length, refl, Option, Some, None, ap, sym, ◌∙◌, arith}
 use Rattle.std.proofs.lemmas.Bool.{or_left, or_right}
-use Rattle.std.proofs.lemmas.List.{append-nil, length-append}
+use Rattle.std.proofs.lemmas.List.{length-append}
 use Rattle.std.specs.Option.{option_map}
 use Rattle.std.specs.Prelude.{IsSomeAnd}
 use Rattle.aux_cache.specs.declared.stamps.Stamp.{Stamp}
 use Rattle.elf_dynamic.specs.Begun.{ReadsBy, is_lacking, lacks_one, most_of, until_lacking}
 use Rattle.hwcap_dirs.specs.declared.kinds.Scope.{Scope}
 use Rattle.ldso_conf.specs.Reading.{conf_bytes, conf_keys, conf_lacks}
-use Rattle.tree_face.proofs.StoreUse.{IsPartial, reads_as, reads_early, reads_fewer, reads_then}
+use Rattle.lib_types.proofs.SortedPairs.{by_test}
+use Rattle.tree_face.proofs.StoreUse.{IsPartial, reads_early, reads_fewer, reads_then}
 use Rattle.tree_face.specs.Known.{IfKnown}
 use Rattle.tree_face.specs.Store.{Contents, StoreState}
 use Rattle.tree_face.specs.StoreUse.{Ending, Complete, ReadsFiles}
 use Rattle.image_tree.specs.Tree.{Nodes}
-use Rattle.library_search.specs.Begun.{after_keys, ends_early, has_too_many_nodes, lacks_file, lacks_wanted, opened_in, search_bytes, search_keys, update_bytes, update_keys, wanted_keys}
+use Rattle.library_search.specs.Begun.{after_keys, has_too_many_nodes, lacks_file, lacks_wanted, opened_in, search_bytes, search_keys, update_bytes, update_keys, wanted_keys}
 use Rattle.library_search.specs.Ldconfig.{conf_of}
 
 lacking_wanted : (scope : Scope) (held : Contents) (t : Nodes) (loaded : List Stamp) → lacks_wanted scope held t loaded ≡ true → lacks_file scope held t loaded ≡ true
 unfolding lacks_file
 lacking_wanted scope held t loaded = or_left (lacks_wanted scope held t loaded) (not (has_too_many_nodes scope held t loaded) && lacks_one held (after_keys scope held t loaded))
 
-lacking_after : (scope : Scope) (held : Contents) (t : Nodes) (loaded : List Stamp) → lacks_wanted scope held t loaded ≡ false → has_too_many_nodes scope held t loaded ≡ false → lacks_one held (after_keys scope held t loaded) ≡ true
+-- the link targets that are opened, unless the planned links don't fit
+abbrev pub then_keys : Scope → Contents → Nodes → List Stamp → List (List ℕ)
+then_keys scope held t loaded = if has_too_many_nodes scope held t loaded then [] else after_keys scope held t loaded
+
+lacking_then : (scope : Scope) (held : Contents) (t : Nodes) (loaded : List Stamp) → lacks_wanted scope held t loaded ≡ false → lacks_one held (then_keys scope held t loaded) ≡ true
     → lacks_file scope held t loaded ≡ true
 unfolding lacks_file
-lacking_after scope held t loaded none few lacks = rw (none, few) lacks
+lacking_then scope held t loaded none = by (has_too_many_nodes scope held t loaded) refl
+  where
+    by : (many : Bool) → has_too_many_nodes scope held t loaded ≡ many → lacks_one held (then_keys scope held t loaded) ≡ true
+        → (lacks_wanted scope held t loaded || (not (has_too_many_nodes scope held t loaded) && lacks_one held (after_keys scope held t loaded))) ≡ true
+    by true e lacks = let h = rw e at lacks in absurd (cc)
+    by false e lacks = rw (none, e) (rw e at lacks)
 
 -- the reading of the conf files in a store with these contents
 abbrev pub ConfBy : Scope → Nodes → Option Contents → Ending → StoreState → StoreState → Type 0
@@ -68,38 +78,24 @@ module _ (scope : Scope) (t : Nodes) (loaded : List Stamp) (e : Ending) where
       (lacking_wanted scope held t loaded) reads
 
   -- the whole search, and then those link targets that are opened
-  all_held : (held : Contents) (keys : List (List ℕ)) (a b c : StoreState) → lacks_wanted scope held t loaded ≡ false → has_too_many_nodes scope held t loaded ≡ false → keys ≡ after_keys scope held t loaded
+  all_held : (held : Contents) (keys : List (List ℕ)) (a b c : StoreState) → lacks_wanted scope held t loaded ≡ false → keys ≡ then_keys scope held t loaded
       → SearchBy scope t loaded (Some held) Complete a b → ReadsFiles (lacks_one held keys ≡ true) (Some (until_lacking held keys)) (Some (most_of held (until_lacking held keys))) e b c
       → ReadsFiles (lacks_file scope held t loaded ≡ true) (Some (update_keys scope held t loaded)) (Some (update_bytes scope held t loaded)) e a c
   unfolding update_keys update_bytes
-  all_held held keys a b c none few are first next =
+  all_held held keys a b c none are first next =
       let both = reads_then e a b c (lacks_wanted scope held t loaded ≡ true) (lacks_one held keys ≡ true) (lacks_file scope held t loaded ≡ true) (Some (search_keys scope held t loaded)) (Some (until_lacking held keys))
       (Some (search_bytes scope held t loaded)) (Some (most_of held (until_lacking held keys)))
-      (λ lacks. lacking_after scope held t loaded none few (ap (lacks_one held) (sym are) ∙ lacks)) first next in
-      rw (none, few) (rw are at both)
+      (λ lacks. lacking_then scope held t loaded none (ap (lacks_one held) (sym are) ∙ lacks)) first next in
+      let all = rw are at both in
+      by_test (has_too_many_nodes scope held t loaded)
+      (λ many. rw (none, many) (rw many at all))
+      (λ few. rw (none, few) (rw few at all))
 
   pub update_all : (known : Option Contents) (keys : List (List ℕ)) (a b c : StoreState) → IfKnown known (λ held. lacks_wanted scope held t loaded ≡ false)
-      → IfKnown known (λ held. has_too_many_nodes scope held t loaded ≡ false) → IfKnown known (λ held. keys ≡ after_keys scope held t loaded)
+      → IfKnown known (λ held. keys ≡ then_keys scope held t loaded)
       → SearchBy scope t loaded known Complete a b → ReadsBy known keys e b c → UpdateBy scope t loaded known e a c
-  update_all None keys a b c none few are first next = tt
-  update_all (Some held) keys a b c none few are first next = all_held held keys a b c none few are first next
-
--- the planned links don't fit, so no link is followed
-small_held : (scope : Scope) (t : Nodes) (loaded : List Stamp) (held : Contents) (a b : StoreState) → has_too_many_nodes scope held t loaded ≡ true → SearchBy scope t loaded (Some held) Complete a b
-    → ReadsFiles (lacks_file scope held t loaded ≡ true) (Some (update_keys scope held t loaded)) (Some (update_bytes scope held t loaded)) Complete a b
-unfolding update_keys update_bytes
-small_held scope t loaded held a b many reads =
-    let early : ends_early scope held t loaded ≡ true = or_right (lacks_wanted scope held t loaded) (has_too_many_nodes scope held t loaded) many in
-    rw (early, append-nil (search_keys scope held t loaded), no_more (search_bytes scope held t loaded)) (reads_as _ _ a b (lacks_wanted scope held t loaded ≡ true) (lacks_file scope held t loaded ≡ true) Complete
-    (lacking_wanted scope held t loaded) reads)
-  where
-    no_more : (n : ℕ) → n + 0 ≡ n
-    no_more n = omega arith
-
-pub update_small : (scope : Scope) (t : Nodes) (loaded : List Stamp) (known : Option Contents) (a b : StoreState) → IfKnown known (λ held. has_too_many_nodes scope held t loaded ≡ true)
-    → SearchBy scope t loaded known Complete a b → UpdateBy scope t loaded known Complete a b
-update_small scope t loaded None a b many reads = tt
-update_small scope t loaded (Some held) a b many reads = small_held scope t loaded held a b many reads
+  update_all None keys a b c none are first next = tt
+  update_all (Some held) keys a b c none are first next = all_held held keys a b c none are first next
 
 -- ---- the number of opened files
 

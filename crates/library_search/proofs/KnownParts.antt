@@ -1,38 +1,34 @@
 -- The parts of an update, if contents are known.
-use Rattle.std.proofs.Common.{◌≡◌, ◌≤◌, ◌<◌, ◌+◌, ◌||◌, ℕ, true, false, List, length, Option, Some, None, sym, subst}
-use Rattle.std.specs.Map.{keys_of}
+use Rattle.std.proofs.Common.{◌≡◌, ◌<◌, ℕ, true, false, List, Option, Some, None, sym, subst}
 use Rattle.aux_cache.specs.declared.stamps.Stamp.{Stamp}
-use Rattle.elf_dynamic.specs.Begun.{lacks_one}
 use Rattle.hwcap_dirs.specs.declared.kinds.Place.{Place}
 use Rattle.hwcap_dirs.specs.declared.kinds.Scope.{Scope}
-use Rattle.string_pool.proofs.Members.{is_in}
-use Rattle.file_table.specs.Analyses.{AgreeOn, Analyses, HaveAnalyses, KeepsAnalyses}
-use Rattle.library_files.specs.Search.{dangling, reached, wanted}
+use Rattle.file_table.specs.Analyses.{AgreeOn, Analyses, HaveNames}
 use Rattle.file_table.specs.Table.{analysis_at}
-use Rattle.planned_tree.specs.Search.{IsSearchedAlike}
+use Rattle.hwcap_dirs.specs.Places.{are_dirs}
+use Rattle.planned_tree.proofs.Alike.{same_file}
+use Rattle.planned_tree.proofs.Planned.{planned_alike}
+use Rattle.soname_links.proofs.Rooms.{have_room}
 use Rattle.soname_links.proofs.NoOtherFiles.{settled_agrees}
 use Rattle.soname_links.specs.Apply.{nodes_with}
-use Rattle.soname_links.specs.declared.kinds.Survey.{Survey}
-use Rattle.soname_links.specs.Marks.{blocked, mixed}
 use Rattle.soname_links.specs.Plan.{links, with_links}
 use Rattle.soname_links.specs.Settled.{IsSettled}
-use Rattle.file_stamps.specs.Opened.{opened_keys}
-use Rattle.file_stamps.specs.Info.{info_in, info_stamps}
-use Rattle.file_stamps.specs.Stamped.{with_stamps}
-use Rattle.file_stamps.specs.State.{ids_there, stamps_there, unread_paths}
-use Rattle.file_stamps.specs.declared.files.Files.{Files}
 use Rattle.image_tree.specs.declared.tree.TheConstants.{NODES_MAX}
 use Rattle.tree_face.specs.Known.{IfKnown}
 use Rattle.tree_face.specs.Store.{Contents}
-use Rattle.image_tree.specs.Tree.{Nodes}
+use Rattle.image_tree.specs.Tree.{IsTree, Nodes}
+use Rattle.library_search.proofs.AnyStamps.{LacksOnly, planned_some}
+use Rattle.library_search.proofs.FilesAgree.{HaveSameFiles}
 use Rattle.library_search.proofs.FoundParts as parts
 use Rattle.library_search.proofs.Judged.{judged_agrees}
-use Rattle.library_search.specs.Begun.{after_keys, has_too_many_nodes, lacks_wanted}
-use Rattle.library_search.specs.declared.following.Followed.{Followed}
+use Rattle.library_search.proofs.KeysBegun.{then_keys}
+use Rattle.library_search.specs.Begun.{lacks_wanted}
+use Rattle.library_search.specs.declared.finding.Found.{Found}
 use Rattle.library_search.specs.declared.search.Search.{Search}
 use Rattle.library_search.specs.Found.{HasTooManyNodes, IsFound, IsSearched}
 use Rattle.library_search.specs.Judged.{judged}
 use Rattle.library_search.specs.Ldconfig.{places_in, info_wanted}
+use Rattle.library_search.specs.Stages.{HasFollowed, IsPlannedFor, IsSearchOf, opened_planned, planned_by}
 use Rattle.tree_face.proofs.Known.{known_then}
 
 module _ (scope : Scope) (t : Nodes) (loaded : List Stamp) (search : Search) where
@@ -41,13 +37,7 @@ module _ (scope : Scope) (t : Nodes) (loaded : List Stamp) (search : Search) whe
 
   module _ (known : Option Contents) (s : IfKnown known (λ held. IsSearched scope held t loaded search)) where
     pub none_lacks : IfKnown known (λ held. lacks_wanted scope held t loaded ≡ false)
-    none_lacks = known_then known _ _ (λ held (s : IsSearched scope held t loaded search). s.none_lacks) s
-
-    pub few_nodes : nodes_then ≤ NODES_MAX → IfKnown known (λ held. has_too_many_nodes scope held t loaded ≡ false)
-    few_nodes few = known_then known _ _ (λ held s. parts.few_nodes scope held t loaded search s few) s
-
-    pub many_nodes : (nodes : ℕ) → (nodes ≡ nodes_then) × (NODES_MAX < nodes) → IfKnown known (λ held. has_too_many_nodes scope held t loaded ≡ true)
-    many_nodes nodes many = known_then known _ _ (λ held s. parts.many_nodes scope held t loaded search s nodes many.0 many.1) s
+    none_lacks = known_then known _ _ (λ held s. parts.none_lacks scope held t loaded search s) s
 
     pub too_large : (nodes : ℕ) → (nodes ≡ nodes_then) × (NODES_MAX < nodes) → IfKnown known (λ held. HasTooManyNodes scope held t loaded nodes)
     too_large nodes many = known_then known _ _ (λ held s. parts.too_large scope held t loaded search s nodes many.0 many.1) s
@@ -57,33 +47,25 @@ module _ (scope : Scope) (t : Nodes) (loaded : List Stamp) (search : Search) whe
         subst (λ (p : List Place). IsSettled (judged scope (info_wanted scope held t loaded)) t p new) s.places
         (settled_agrees t (analysis_at search.files.table) (judged scope (info_wanted scope held t loaded)) search.dirs.places new (λ path there. sym (parts.agree_wanted scope held t loaded search s path there)) still)) s
 
-  module _ (all : HaveAnalyses (analysis_at search.files.table) (wanted t search.dirs.places))
-      (only : (path : List ℕ) → is_in (keys_of search.files.table) path ≡ true → is_in (wanted t search.dirs.places) path ≡ true) (new : Nodes) (alike : IsSearchedAlike t new)
-      (new_is : new ≡ with_links t (links (analysis_at search.files.table) t search.dirs.places)) where
-    abbrev here : List Stamp
-    here = stamps_there loaded search.files
+    -- the keys of the link targets that are opened, and the files that they belong to
+    pub planned_are : IsSearchOf scope t search → HaveSameFiles t (with_links t (planned_by search t))
+        → IfKnown known (λ held. opened_planned loaded search t ≡ then_keys scope held t loaded)
+    planned_are is files = known_then known _ _ (λ held s. parts.planned_are scope held t loaded search s is files) s
 
-    -- the link targets that weren't read
-    abbrev following : List (List ℕ)
-    following = unread_paths search.files (reached new search.dirs.places)
+    pub planned_only : HaveSameFiles t (with_links t (planned_by search t)) → IfKnown known (LacksOnly scope t (opened_planned loaded search t))
+    planned_only files = known_then known _ _ (λ held (s : IsSearched scope held t loaded search). planned_some scope held t loaded search files) s
 
-    pub after_are : (known : Option Contents) → IfKnown known (λ held. IsSearched scope held t loaded search)
-        → IfKnown known (λ held. opened_keys new (ids_there loaded search.files) following ≡ after_keys scope held t loaded)
-    after_are known s = known_then known _ _ (λ held s. parts.after_are scope held t loaded search s all only new alike new_is) s
+  pub is_found : IsSearchOf scope t search → (found : Found) (new : Nodes) → IsPlannedFor loaded search t found new → (known : Option Contents) → IfKnown known (λ held. IsSearched scope held t loaded search)
+      → IfKnown known (λ held. HasFollowed scope held loaded search found new) → IfKnown known (λ held. IsFound scope held t loaded found new)
+  is_found is found new p None s f = tt
+  is_found is found new p (Some held) s f = parts.is_found scope held t loaded search s is found new p f
 
-    module _ (still : IsSettled (analysis_at search.files.table) t search.dirs.places new) (made : Survey) (followed : Followed) (files : Files)
-        (plan : made.plan ≡ links (analysis_at search.files.table) t search.dirs.places) (few : nodes_then ≤ NODES_MAX)
-        (b : made.blocked ≡ blocked (analysis_at search.files.table) t search.dirs.places) (m : made.mixed ≡ mixed (analysis_at search.files.table) t search.dirs.places)
-        (d : followed.dangling ≡ dangling new search.dirs.places) (keeps : KeepsAnalyses (analysis_at search.files.table) (analysis_at files.table))
-        (more : (path : List ℕ) → is_in (keys_of files.table) path ≡ true → (is_in (keys_of search.files.table) path || is_in (reached new search.dirs.places) path) ≡ true) where
-      pub is_found : (known : Option Contents) → IfKnown known (λ held. IsSearched scope held t loaded search)
-          → IfKnown known (λ held. AgreeOn following (judged scope (info_in held new here following)) (analysis_at files.table))
-          → IfKnown known (λ held. files.stamps ≡ with_stamps search.files.stamps (info_stamps new (info_in held new here following) following))
-          → files.begun ≡ search.files.begun + length (opened_keys new (ids_there loaded search.files) following)
-          → IfKnown known (λ held. lacks_one held (opened_keys new (ids_there loaded search.files) following) ≡ false)
-          → IfKnown known (λ held. IsFound scope held t loaded (record { search = record search { files = files }; links = made; followed = followed }) new)
-      is_found None s info stamps begun none = tt
-      is_found (Some held) s info stamps begun none = parts.is_found scope held t loaded search s all only new alike new_is made followed files still plan few b m d info keeps more stamps begun none
+-- the planned links leave each file where it is
+pub same_files : (t : Nodes) (search : Search) → IsTree t → HaveNames (analysis_at search.files.table) → are_dirs t search.dirs.places ≡ true → HaveSameFiles t (with_links t (planned_by search t))
+same_files t search tree named dirs =
+    same_file t (with_links t (planned_by search t)) (planned_alike t (planned_by search t) (have_room (analysis_at search.files.table) named t tree search.dirs.places dirs))
+
+-- ---- judged analyses
 
 -- judged analyses agree if the analyses do
 module _ (scope : Scope) (what new : Analyses) (judges : (path : List ℕ) → new path ≡ judged scope what path) where

@@ -1,15 +1,18 @@
-mod AnyStamps
+pub mod AnyStamps
 mod Bests
-mod Endings
+pub mod Endings
 pub mod FilesAgree
-mod FoundParts
+pub mod FoundParts
 pub mod Honest
 pub mod Judged
-mod KeysBegun
-mod KnownParts
+pub mod KeysBegun
+pub mod KnownParts
 pub mod Limits
+pub mod Named
+mod Opened
 mod Replaced
+mod Results
 mod Rows
 mod InfoBoth
-mod SearchParts
+pub mod SearchParts
 pub mod StampsAgree

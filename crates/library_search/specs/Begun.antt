@@ -5,8 +5,10 @@ use Rattle.std.specs.List.{list_any}
 use Rattle.std.specs.Option.{option_map_or}
 use Rattle.aux_cache.specs.declared.stamps.Stamp.{Stamp}
 use Rattle.elf_dynamic.specs.Begun.{is_lacking, key_in, lacks_one, most_of, until_lacking}
+use Rattle.hwcap_dirs.specs.declared.kinds.Place.{Place}
 use Rattle.hwcap_dirs.specs.declared.kinds.Scope.{Scope}
 use Rattle.ldso_conf.specs.Reading.{conf_bytes, conf_keys, conf_lacks}
+use Rattle.library_files.specs.Search.{wanted}
 use Rattle.soname_links.specs.Apply.{nodes_with}
 use Rattle.file_stamps.specs.Opened.{ids_at, ids_of, opened_keys}
 use Rattle.file_stamps.specs.Stamped.{stamps_at}
@@ -15,6 +17,10 @@ use Rattle.image_tree.specs.declared.tree.TheConstants.{NODES_MAX}
 use Rattle.tree_face.specs.Store.{Contents}
 use Rattle.image_tree.specs.Tree.{Nodes}
 use Rattle.library_search.specs.Ldconfig.{after_in, conf_of, links_in, wanted_in}
+
+-- the keys of the files with library names in these search directories that are opened, given the loaded stamps
+abbrev pub opened_wanted : Nodes → List Stamp → List Place → List (List ℕ)
+opened_wanted t loaded places = opened_keys t (ids_of loaded) (wanted t places)
 
 -- the keys of the files with library names that are opened, given the loaded stamps
 unfoldable pub wanted_keys : Scope → Contents → Nodes → List Stamp → List (List ℕ)

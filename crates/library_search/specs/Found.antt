@@ -1,5 +1,5 @@
 -- The results of an image's search, part by part.
-use Rattle.std.specs.Prelude.{◌≡◌, ◌+◌, ◌++◌, ℕ, true, false, List, [], length, Some, None, IsSomeAnd}
+use Rattle.std.specs.Prelude.{◌≡◌, ◌+◌, ℕ, true, false, List, length, Some, None, IsSomeAnd}
 use Rattle.std.specs.List.{filter_map}
 use Rattle.std.specs.Map.{keys_of}
 use Rattle.std.specs.Option.{option_map}
@@ -9,27 +9,23 @@ use Rattle.elf_dynamic.specs.Begun.{lacks_one}
 use Rattle.hwcap_dirs.specs.Places.{absent}
 use Rattle.hwcap_dirs.specs.declared.kinds.Scope.{Scope}
 use Rattle.ldso_conf.specs.Reading.{IsConfOf, conf_keys}
-use Rattle.file_table.specs.Analyses.{AgreeOn}
 use Rattle.string_pool.specs.Order.{ascending}
 use Rattle.library_files.specs.Search.{dangling}
 use Rattle.file_table.specs.Table.{analysis_at}
 use Rattle.place_libraries.specs.Best.{bests_of}
 use Rattle.soname_links.specs.Apply.{nodes_with}
 use Rattle.soname_links.specs.Marks.{blocked, mixed}
-use Rattle.file_stamps.specs.Info.{info_stamps}
-use Rattle.file_stamps.specs.Opened.{HaveSameIds}
-use Rattle.file_stamps.specs.Stamped.{StampTheSame, with_stamps}
-use Rattle.file_stamps.specs.State.{ids_there}
 use Rattle.tree_face.specs.Known.{IfKnown}
 use Rattle.tree_face.specs.Store.{Contents, StoreState}
 use Rattle.tree_face.specs.StoreUse.{Ending, ReadsFiles}
 use Rattle.image_tree.specs.Tree.{Nodes}
 use Rattle.update_report.specs.Skips.{skip_at}
-use Rattle.library_search.specs.Begun.{after_keys, has_too_many_nodes, ids_wanted, lacks_file, lacks_some, lacks_wanted, opened_in, search_bytes, search_keys, stamps_wanted, update_bytes, update_keys, wanted_keys}
+use Rattle.library_search.specs.Begun.{after_keys, has_too_many_nodes, lacks_file, lacks_some, lacks_wanted, opened_in, search_bytes, search_keys, update_bytes, update_keys}
 use Rattle.library_search.specs.Judged.{judged}
 use Rattle.library_search.specs.declared.finding.Found.{Found}
 use Rattle.library_search.specs.declared.search.Search.{Search}
-use Rattle.library_search.specs.Ldconfig.{best_libraries, conf_in, conf_of, entries_in, library_files, links_in, places_in, planned_in, info_files, info_wanted, stamps_in, wanted_in}
+use Rattle.library_search.specs.Ldconfig.{best_libraries, conf_in, conf_of, entries_in, library_files, links_in, places_in, planned_in, info_files, info_wanted, stamps_in}
+use Rattle.library_search.specs.Stages.{HasRead}
 
 -- ---- before the links are planned
 
@@ -38,12 +34,7 @@ pub record IsSearched (scope : Scope) (held : Contents) (t : Nodes) (loaded : Li
   pub conf : IsConfOf (conf_of scope) search.conf held t
   pub places : search.dirs.places ≡ places_in scope held t
   pub absent_is : search.dirs.absent ≡ absent t (conf_in scope held t).dirs
-  pub info : AgreeOn (wanted_in scope held t) (judged scope (info_wanted scope held t loaded)) (analysis_at search.files.table)
-  pub stamps : search.files.stamps ≡ with_stamps [] (info_stamps t (info_wanted scope held t loaded) (wanted_in scope held t))
-  pub stamped : StampTheSame (loaded ++ search.files.stamps) (stamps_wanted scope held t loaded)
-  pub ids : HaveSameIds (ids_there loaded search.files) (ids_wanted scope held t loaded)
-  pub begun : search.files.begun ≡ length (wanted_keys scope held t loaded)
-  pub none_lacks : lacks_wanted scope held t loaded ≡ false
+  pub read : HasRead scope held t loaded search
 
 -- the search opens these files, without assumptions on stamps
 abbrev pub ReadsSearch : Scope → Nodes → List Stamp → Ending → StoreState → StoreState → Type 0

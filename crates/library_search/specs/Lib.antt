@@ -5,4 +5,5 @@ pub mod Found
 pub mod Judged
 pub mod Laws
 pub mod Ldconfig
+pub mod Stages
 pub mod Unsearchable

@@ -1,12 +1,14 @@
 //! The results of an update's search.
-ghost use Rattle.std.specs.Prelude.{◌≡◌, ℕ, IfOk, IsErrOf, IsTrue, OnOk};
+ghost use Rattle.std.specs.Prelude.{◌≡◌, ◌<◌, ℕ, IfOk, IsErrOf, IsTrue, OnOk};
+ghost use Rattle.elf_dynamic.specs.Begun.{ReadsKeys};
 ghost use Rattle.hwcap_dirs.specs.Places.{are_spelled};
 ghost use Rattle.place_libraries.specs.Best.{bests_of};
 ghost use Rattle.library_files.specs.Search.{followed};
 ghost use Rattle.file_table.specs.Table.{analysis_at};
 ghost use Rattle.image_tree.specs.Tree.{IsTree};
+ghost use Rattle.image_tree.specs.declared.tree.TheConstants.{NODES_MAX};
 ghost use Rattle.planned_tree.specs.Search.{IsSearchedAlike};
-ghost use Rattle.soname_links.specs.Apply.{is_plan};
+ghost use Rattle.soname_links.specs.Apply.{is_plan, nodes_with};
 ghost use Rattle.soname_links.specs.Settled.{IsSettled};
 ghost use Rattle.aux_cache.specs.Stamps.{AreRecordable};
 ghost use Rattle.tree_face.specs.Known.{IfKnown};
@@ -14,6 +16,7 @@ ghost use Rattle.library_search.specs.Faults.{find_ending};
 ghost use Rattle.library_search.specs.Found.{HasTooManyNodes, IsFound, ReadsFinding};
 ghost use Rattle.library_search.specs.Judged.{judged};
 ghost use Rattle.library_search.specs.Ldconfig.{places_in, info_wanted};
+ghost use Rattle.library_search.specs.Stages.{HasFollowed, IsSearchOf, IsPlannedFor, opened_planned, planned_by};
 
 use crate::fault::FindFault;
 use crate::following::{Followed, follow_links};
@@ -32,6 +35,47 @@ pub struct Found {
     pub search: Search,
     pub links: Survey,
     pub followed: Followed,
+}
+
+/// Plans the links for a search of a tree, puts them into the tree and follows the links with library names. It opens a link's target only
+/// if the file's identity has no stamp.
+///
+/// The tree may have more nodes than the one that was searched, as long as the same holds of its search directories.
+pub fn plan_found<S: Store>(
+    alloc: Global,
+    scope: &Scope,
+    search: Search,
+    tree: &mut Tree,
+    store: &mut S,
+    loaded: &Stamps,
+) -> Result<Found, FindFault>
+    requires recordable { AreRecordable loaded.now }
+    requires looked { IsSearchOf scope.now tree.old search }
+    ensures planned { IfOk result (λ found. IsPlannedFor loaded.now search tree.old found tree.new) }
+    ensures followed { IfOk result (λ found. IfKnown (S.state store.old).held (λ held. HasFollowed scope.now held loaded.now search found tree.new)) }
+    ensures valid { IfOk result (λ found. IsTrue (is_plan found.links.plan)) }
+    ensures is_tree { OnOk result (IsTree tree.new) }
+    ensures links { IfOk result (λ found. found.followed.links ≡ followed tree.new found.search.dirs.places) }
+    ensures bests { IfOk result (λ found. found.links.bests ≡ bests_of (analysis_at found.search.files.table) tree.new found.search.dirs.places) }
+    ensures too_large { (nodes : ℕ) → IsErrOf result (FindFault.TooLarge nodes) → (nodes ≡ nodes_with tree.old (planned_by search tree.old)) × (NODES_MAX < nodes) }
+    ensures reads { ReadsKeys (opened_planned loaded.now search tree.old) (find_ending result) (S.state store.old) (S.state store.new) }
+{
+    let mut searched = search;
+    let links = plan_links(alloc, tree, &searched.dirs, &searched.files.table)?;
+    let followed = follow_links(
+        alloc,
+        tree,
+        store,
+        loaded,
+        &searched.dirs,
+        &mut searched.files,
+    )?;
+    judge(alloc, scope, &mut searched.files.table)?;
+    Ok(Found {
+        search: searched,
+        links,
+        followed,
+    })
 }
 
 /// Searches an image, and puts the planned links into its tree. It opens a library file only if the file's identity has no stamp: no
@@ -57,13 +101,8 @@ pub fn find<S: Store>(
         IfKnown (S.state store.old).held (λ held. HasTooManyNodes scope.now held tree.old loaded.now nodes) }
     ensures reads { ReadsFinding scope.now tree.old loaded.now (find_ending result) (S.state store.old) (S.state store.new) }
 {
-    let mut search = search_image(alloc, scope, tree, store, loaded)?;
-    let links = plan_links(alloc, tree, &search.dirs, &search.files.table)?;
-    let followed = follow_links(alloc, tree, store, loaded, &search.dirs, &mut search.files)?;
-    judge(alloc, scope, &mut search.files.table)?;
-    Ok(Found {
-        search,
-        links,
-        followed,
-    })
+    let search = search_image(alloc, scope, tree, store, loaded)?;
+    tree.know();
+    search.files.table.know();
+    plan_found(alloc, scope, search, tree, store, loaded)
 }

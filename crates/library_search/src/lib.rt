@@ -8,6 +8,6 @@ mod judging;
 mod search;
 
 pub use fault::FindFault;
-pub use finding::{Found, find};
+pub use finding::{Found, find, plan_found};
 pub use following::Followed;
-pub use search::Search;
+pub use search::{Search, read_source, search_places};

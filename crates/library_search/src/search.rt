@@ -5,7 +5,8 @@ ghost use Rattle.std.specs.Map.{keys_of};
 ghost use Rattle.std.specs.Str.{bytes_eq};
 ghost use Rattle.file_stamps.specs.Files.{AreRead};
 ghost use Rattle.aux_cache.specs.Stamps.{AreRecordable};
-ghost use Rattle.hwcap_dirs.specs.Places.{are_dirs, are_spelled};
+ghost use Rattle.elf_dynamic.specs.Begun.{ReadsKeys};
+ghost use Rattle.hwcap_dirs.specs.Places.{absent, are_dirs, are_spelled, places};
 ghost use Rattle.file_table.specs.Analyses.{HaveAnalyses};
 ghost use Rattle.place_libraries.specs.Rows.{AreOfPlaces};
 ghost use Rattle.library_files.specs.Search.{wanted};
@@ -15,9 +16,11 @@ ghost use Rattle.image_tree.specs.declared.path.TheConstants.{PATH_MAX};
 ghost use Rattle.ldso_conf.specs.Endings.{ending_of};
 ghost use Rattle.ldso_conf.specs.Reading.{IsConfOf, ReadsConf};
 ghost use Rattle.library_search.specs.Faults.{find_ending, is_store_fault};
+ghost use Rattle.library_search.specs.Begun.{opened_wanted};
 ghost use Rattle.library_search.specs.Found.{IsSearched, ReadsSearch};
 ghost use Rattle.library_search.specs.Judged.{AreJudged};
 ghost use Rattle.library_search.specs.Ldconfig.{conf_of, conf_or};
+ghost use Rattle.library_search.specs.Stages.{IsSearchOf, HasRead};
 
 use crate::fault::FindFault;
 use crate::judging::judge;
@@ -25,7 +28,7 @@ use aux_cache::Stamps;
 use file_stamps::{Files, read_files};
 use hwcap_dirs::{Dirs, Scope, order};
 use ldso_conf::{CONF_PATH, Conf, ConfFault, given_dirs, read_conf};
-use lib_types::{NoMemory, Text};
+use lib_types::Text;
 use library_files::wanted_files;
 use std::alloc::Global;
 use tree_face::{Store, Tree};
@@ -50,9 +53,9 @@ fn conf_or(conf: &Option<Text>) -> &[u8]
     }
 }
 
-// The directories that the conf files name, or those of the command line.
+/// The directories that the conf files name, or those of the command line.
 #[tactic(auto, using(ldso_conf::proofs::CommandLine::given_reads, ldso_conf::proofs::CommandLine::given_gave_up))]
-fn read_source<S: Store>(
+pub fn read_source<S: Store>(
     alloc: Global,
     scope: &Scope,
     tree: &Tree,
@@ -65,11 +68,41 @@ fn read_source<S: Store>(
     match scope {
         Scope::Image => read_conf(alloc, CONF_PATH, tree, store),
         Scope::Root { conf } => read_conf(alloc, conf_or(conf), tree, store),
-        Scope::Only { dirs } => match given_dirs(alloc, dirs) {
-            Ok(conf) => Ok(conf),
-            Err(NoMemory) => Err(ConfFault::NoMemory),
-        },
+        Scope::Only { dirs } => Ok(given_dirs(alloc, dirs)?),
     }
+}
+
+/// Searches a tree, given the directories that the conf files or the command line name. Reads the files with library names in the search
+/// directories, and opens a file only if its identity has no stamp.
+///
+/// `conf` may come from a larger tree. Of that tree, the search directories, their names, and the files with library names must be here.
+pub fn search_places<S: Store>(
+    alloc: Global,
+    scope: &Scope,
+    conf: Conf,
+    tree: &Tree,
+    store: &mut S,
+    loaded: &Stamps,
+) -> Result<Search, FindFault>
+    requires short { All (λ dir. length dir ≤ PATH_MAX) conf.dirs }
+    requires recordable { AreRecordable loaded.now }
+    ensures conf { IfOk result (λ search. search.conf ≡ conf) }
+    ensures places { IfOk result (λ search. search.dirs.places ≡ places scope.now tree.now conf.dirs) }
+    ensures absent { IfOk result (λ search. search.dirs.absent ≡ absent tree.now conf.dirs) }
+    ensures spelled { IfOk result (λ search. IsTrue (are_spelled search.dirs.places)) }
+    ensures looked { IfOk result (IsSearchOf scope.now tree.now) }
+    ensures read { IfOk result (λ search. IfKnown (S.state store.old).held (λ held. HasRead scope.now held tree.now loaded.now search)) }
+    ensures all_read { IfOk result (λ search. AreRead tree.now (analysis_at search.files.table) (wanted tree.now search.dirs.places)) }
+    ensures reads { ReadsKeys (opened_wanted tree.now loaded.now (places scope.now tree.now conf.dirs)) (find_ending result) (S.state store.old) (S.state store.new) }
+    ensures others { IfErr result (λ fault. is_store_fault fault ≡ true) }
+{
+    tree.know();
+    let dirs = order(alloc, scope, tree, &conf.dirs)?;
+    let found = wanted_files(alloc, tree, &dirs)?;
+    let mut files = Files::new(alloc, found.len());
+    read_files(alloc, tree, store, loaded, found, &mut files)?;
+    judge(alloc, scope, &mut files.table)?;
+    Ok(Search { conf, dirs, files })
 }
 
 /// Reads the conf files, unless the command line gives directories, and then the files with library names in the search directories. It
@@ -94,12 +127,6 @@ pub fn search_image<S: Store>(
     ensures reads { ReadsSearch scope.now tree.now loaded.now (find_ending result) (S.state store.old) (S.state store.new) }
     ensures others { IfErr result (λ fault. is_store_fault fault ≡ true) }
 {
-    tree.know();
     let conf = read_source(alloc, scope, tree, store)?;
-    let dirs = order(alloc, scope, tree, &conf.dirs)?;
-    let found = wanted_files(alloc, tree, &dirs)?;
-    let mut files = Files::new(alloc, found.len());
-    read_files(alloc, tree, store, loaded, found, &mut files)?;
-    judge(alloc, scope, &mut files.table)?;
-    Ok(Search { conf, dirs, files })
+    search_places(alloc, scope, conf, tree, store, loaded)
 }

@@ -12,7 +12,7 @@ use Rattle.lib_types.specs.Name.{is_name, are_dots, have_no_slash}
 use Rattle.image_tree.specs.Node.{is_key, is_target, has_no_nul}
 use Rattle.image_tree.specs.Paths.{is_path, are_names, root}
 use Rattle.image_tree.specs.declared.path.TheConstants.{PATH_MAX}
-use Rattle.image_tree.specs.declared.node.TheConstants.{TEXT_MAX}
+use Rattle.image_tree.specs.declared.node.TheConstants.{NODE_TEXT_MAX}
 
 -- the properties of a name
 pub record IsName (name : List ℕ) : Type 0 where
@@ -82,7 +82,7 @@ path_key path proper =
     let key = drop 1 path in
     let less = length-drop 1 path in
     and_from (is_target key) (is_utf8 key)
-    (and_from (leb 1 (length key) && leb (length key) TEXT_MAX) (has_no_nul key)
-    (and_from (leb 1 (length key)) (leb (length key) TEXT_MAX) (le-leb 1 (length key) text.some) (le-leb (length key) TEXT_MAX (omega arith)))
+    (and_from (leb 1 (length key) && leb (length key) NODE_TEXT_MAX) (has_no_nul key)
+    (and_from (leb 1 (length key)) (leb (length key) NODE_TEXT_MAX) (le-leb 1 (length key) text.some) (le-leb (length key) NODE_TEXT_MAX (omega arith)))
     text.no_nul)
     (is_utf8-from_IsUtf8 key text.utf8)

@@ -5,7 +5,7 @@ use Rattle.std.specs.Char.{is_ascii_digit}
 use Rattle.std.specs.Str.{byte, bytes_eq}
 use Rattle.std.specs.Str.Parse.{digits_value}
 use Rattle.image_tree.specs.Node.{has_no_nul, is_key}
-use Rattle.image_tree.specs.declared.node.TheConstants.{TEXT_MAX}
+use Rattle.image_tree.specs.declared.node.TheConstants.{NODE_TEXT_MAX}
 use Rattle.manifest_words.specs.Escape.{decoded}
 use Rattle.manifest_words.specs.declared.fault.LineKind.{LineKind}
 use Rattle.manifest_words.specs.declared.fault.LineKind.TheVariants.{BadEscape, BadLine, BadNumber, BadType, NoTarget}
@@ -84,7 +84,7 @@ number_of value =
 
 -- whether a text may be a link's target; an empty text counts as no target, but isn't an error here
 abbrev pub is_link_text : List ℕ → Bool
-is_link_text text = nat_le (length text) TEXT_MAX && has_no_nul text
+is_link_text text = nat_le (length text) NODE_TEXT_MAX && has_no_nul text
 
 abbrev pub text_fault : (List ℕ → Bool) → Option (List ℕ) → Option LineKind
 text_fault may_be None = Some BadEscape

@@ -12,7 +12,7 @@ use crate::escape::{decode, has_backslash};
 use crate::fault::LineKind;
 use lib_types::{NoMemory, find_byte, is_utf8};
 use std::alloc::Global;
-use tree_face::TEXT_MAX;
+use tree_face::NODE_TEXT_MAX;
 
 /// The keywords that are used here. All others are `Other`.
 #[derive(Clone, Copy, Debug, PartialEq, Eq)]
@@ -228,7 +228,7 @@ fn has_no_nul(text: &[u8]) -> bool
 fn is_link_text(text: &[u8]) -> bool
     ensures { result ≡ is_link_text text.now }
 {
-    text.len() <= TEXT_MAX && has_no_nul(text)
+    text.len() <= NODE_TEXT_MAX && has_no_nul(text)
 }
 
 fn is_key(text: &[u8]) -> bool

@@ -27,7 +27,7 @@ use Rattle.mtree_manifest.specs.declared.line.Head.{Head}
 use Rattle.mtree_manifest.specs.declared.line.Head.TheVariants as head
 use Rattle.manifest_words.specs.declared.keys.LineType.{LineType}
 use Rattle.manifest_words.specs.declared.keys.LineType.TheVariants as types
-use Rattle.image_tree.specs.declared.node.TheConstants.{TEXT_MAX}
+use Rattle.image_tree.specs.declared.node.TheConstants.{NODE_TEXT_MAX}
 
 -- if a line has no error, its parts have no error
 pub neither : (a b : Option LineKind) → first_fault a b ≡ None → (a ≡ None) × (b ≡ None)
@@ -84,8 +84,8 @@ some_target : (b : ℕ) (text : Option (List ℕ)) → is_none (text_fault is_li
 some_target b None good = absurd (cc)
 some_target b (Some text) good =
     let t = b ∷ text in
-    let parts = and_parts (leb (length t) TEXT_MAX) (has_no_nul t) (good_text is_link_text (Some t) good) in
-    and_from (leb 1 (length t) && leb (length t) TEXT_MAX) (has_no_nul t) (and_from (leb 1 (length t)) (leb (length t) TEXT_MAX) (le-leb 1 (length t) (omega arith)) parts.0) parts.1
+    let parts = and_parts (leb (length t) NODE_TEXT_MAX) (has_no_nul t) (good_text is_link_text (Some t) good) in
+    and_from (leb 1 (length t) && leb (length t) NODE_TEXT_MAX) (has_no_nul t) (and_from (leb 1 (length t)) (leb (length t) NODE_TEXT_MAX) (le-leb 1 (length t) (omega arith)) parts.0) parts.1
 
 first_target : (first : Option (ℕ × List ℕ)) → is_none (text_fault is_link_text (then_rest first)) ≡ true → is_target (unwrap_or (then_rest first) []) ≡ true
 first_target None good = absurd (cc)

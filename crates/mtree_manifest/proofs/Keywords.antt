@@ -26,7 +26,7 @@ use Rattle.manifest_words.specs.declared.keys.LineType.TheVariants as types
 use Rattle.manifest_words.proofs.Escaping.{decoded_escaped, escaped_printed, escaped_some, escaped_ends, bytes_same}
 use Rattle.manifest_words.proofs.Numbers.{digits_model}
 use Rattle.manifest_words.proofs.Tokens.{IsToken, are_printed, spaced, goes_on-append}
-use Rattle.image_tree.specs.declared.node.TheConstants.{TEXT_MAX}
+use Rattle.image_tree.specs.declared.node.TheConstants.{NODE_TEXT_MAX}
 
 -- ---- the words
 
@@ -129,10 +129,10 @@ id_tokens (Some id) range =
     (number_token (codes "dev=") id.dev refl range.dev, (number_token (codes "inode=") id.inode refl range.inode, (number_token (codes "ctime=") id.ctime refl range.ctime, (number_token (codes "size=") id.size refl range.size, tt))))
 
 target_some : (text : List ℕ) → is_target text ≡ true → 0 < length text
-target_some text e = leb-true 1 (length text) (and_parts (leb 1 (length text)) (leb (length text) TEXT_MAX) (and_parts (leb 1 (length text) && leb (length text) TEXT_MAX) (has_no_nul text) e).0).0
+target_some text e = leb-true 1 (length text) (and_parts (leb 1 (length text)) (leb (length text) NODE_TEXT_MAX) (and_parts (leb 1 (length text) && leb (length text) NODE_TEXT_MAX) (has_no_nul text) e).0).0
 
 target_clear : (text : List ℕ) → is_target text ≡ true → has_no_nul text ≡ true
-target_clear text e = (and_parts (leb 1 (length text) && leb (length text) TEXT_MAX) (has_no_nul text) e).1
+target_clear text e = (and_parts (leb 1 (length text) && leb (length text) NODE_TEXT_MAX) (has_no_nul text) e).1
 
 key_tokens : (t : Bool) (key : List ℕ) → is_key key ≡ true → AreBytes key → AllByRecursion IsToken (key_keywords t key)
 unfolding key_keywords
@@ -251,8 +251,8 @@ values_for path (node.Link target) = record no_values { kind = types.Link; link 
 
 target_text : (text : List ℕ) → is_target text ≡ true → is_link_text text ≡ true
 target_text text e =
-    let parts = and_parts (leb 1 (length text) && leb (length text) TEXT_MAX) (has_no_nul text) e in
-    and_from (leb (length text) TEXT_MAX) (has_no_nul text) (and_parts (leb 1 (length text)) (leb (length text) TEXT_MAX) parts.0).1 parts.1
+    let parts = and_parts (leb 1 (length text) && leb (length text) NODE_TEXT_MAX) (has_no_nul text) e in
+    and_from (leb (length text) NODE_TEXT_MAX) (has_no_nul text) (and_parts (leb 1 (length text)) (leb (length text) NODE_TEXT_MAX) parts.0).1 parts.1
 
 pub keywords_given : (path : List ℕ) (n : Node) → is_node n ≡ true → IsNodeInRange n → given no_values (keywords path n) ≡ nothing_wrong (values_for path n)
 unfolding keywords values_for

@@ -26,7 +26,7 @@ use Rattle.manifest_words.specs.Lines.{Line, joined, goes_on, physical_words, ph
 use Rattle.mtree_manifest.specs.Manifest.{State, Puts, ◌>>=◌, reading, entry, entry_fault, put_by, stack_after, node_of, node_by, is_dir, target_fault, unless_faulty, with_node, with_reading, with_lines, no_lines, outcome, tree_of}
 use Rattle.manifest_words.specs.Paths.{decoded_each, names_of, place, place_fault}
 use Rattle.manifest_words.specs.Range.{AreBytes, IsInRange, AreInRange}
-use Rattle.mtree_manifest.specs.declared.fault.TheConstants.{TEXT_MAX}
+use Rattle.mtree_manifest.specs.declared.fault.TheConstants.{MANIFEST_MAX}
 use Rattle.manifest_words.proofs.Escaping.{split_escaped, bytes_of_parts, names_kept, names_decoded}
 use Rattle.mtree_manifest.proofs.Keywords.{keywords, path_word, line_spaced, keyword_tokens, path_token, values_for, keywords_given, node_made, target_made}
 use Rattle.manifest_words.specs.Escape.{escaped}
@@ -172,18 +172,18 @@ canon_lines (e ∷ t) good range =
 signature : IsBody (codes "#mtree")
 signature = record { printed = refl; ends = refl }
 
-pub reads_back : (t : Nodes) → IsTree t → AreInRange t → length (canon t) ≤ TEXT_MAX → outcome (canon t) ≡ Ok t
+pub reads_back : (t : Nodes) → IsTree t → AreInRange t → length (canon t) ≤ MANIFEST_MAX → outcome (canon t) ≡ Ok t
 unfolding canon outcome after
 reads_back t tree range short =
     let physicals : physical_lines (canon t) ≡ codes "#mtree" ∷ map body t =
     ap physical_lines (sym (append_assoc (codes "#mtree") (10 ∷ []) (flat_map node_line t)))
     ∙ physical_first (codes "#mtree") (flat_map node_line t) signature
     ∙ ap (λ lines. codes "#mtree" ∷ lines) (canon_lines t tree.entries range) in
-    cond-true (leb (length (canon t)) TEXT_MAX) _ _ (le-leb _ _ short)
+    cond-true (leb (length (canon t)) MANIFEST_MAX) _ _ (le-leb _ _ short)
     ∙ ap (λ lines. with_lines no_lines (joined 1 lines) >>= (λ s. Ok s.tree)) physicals
     ∙ ap (λ r. r >>= (λ s. Ok s.tree)) (lines_read t [] 2 tree range)
 
 -- the same for a text that was written
-pub read_again : (t : Nodes) (text : List ℕ) → text ≡ canon t → IsTree t → AreInRange t → length text ≤ TEXT_MAX → tree_of text ≡ Some t
+pub read_again : (t : Nodes) (text : List ℕ) → text ≡ canon t → IsTree t → AreInRange t → length text ≤ MANIFEST_MAX → tree_of text ≡ Some t
 read_again t text same tree range short =
-    ap tree_of same ∙ ap result_ok (reads_back t tree range (subst (λ bytes. length bytes ≤ TEXT_MAX) same short))
+    ap tree_of same ∙ ap result_ok (reads_back t tree range (subst (λ bytes. length bytes ≤ MANIFEST_MAX) same short))

@@ -11,7 +11,7 @@ use Rattle.manifest_words.specs.Escape.{decoded}
 use Rattle.manifest_words.specs.Keys.{Values, Given, no_values, given, unset, first_fault, fault_unless}
 use Rattle.manifest_words.specs.Lines.{Line, lines_in}
 use Rattle.manifest_words.specs.Paths.{Stack, closed, is_full, place, place_fault}
-use Rattle.mtree_manifest.specs.declared.fault.TheConstants.{TEXT_MAX}
+use Rattle.mtree_manifest.specs.declared.fault.TheConstants.{MANIFEST_MAX}
 use Rattle.manifest_words.specs.declared.fault.LineKind.{LineKind}
 use Rattle.manifest_words.specs.declared.fault.LineKind.TheVariants.{BadLine, NoTarget}
 use Rattle.mtree_manifest.specs.declared.fault.ManifestFault.{ManifestFault}
@@ -169,7 +169,7 @@ with_lines s (line ∷ lines) = with_line s line >>= (λ t. with_lines t lines)
 -- the tree made of the puts of all lines in order, or the first bad line
 unfoldable pub outcome : List ℕ → Result Nodes ManifestFault
 outcome text =
-    if nat_le (length text) TEXT_MAX
+    if nat_le (length text) MANIFEST_MAX
     then with_lines no_lines (lines_in text) >>= (λ s. Ok s.tree)
     else Err (TooLong (length text))
 

@@ -6,12 +6,12 @@ use manifest_words::LineKind;
 use std::alloc::{AllocError, AllocFailed};
 
 /// The maximum size of a manifest's text: 64 MiB, about 80 bytes for each node that a tree may have.
-pub const TEXT_MAX: usize = 1 << 26;
+pub const MANIFEST_MAX: usize = 1 << 26;
 
 /// Why a manifest was not read. Lines are counted from 1, and a joined line has the number of its first physical line.
 #[derive(Clone, Copy, Debug, PartialEq, Eq)]
 pub enum ManifestFault {
-    /// The text has more than `TEXT_MAX` bytes.
+    /// The text has more than `MANIFEST_MAX` bytes.
     TooLong { length: u64 },
     Bad { line: u64, kind: LineKind },
     /// The line would put a node below a file or a link, or a file or a link above a node.

@@ -10,8 +10,8 @@ mod single;
 mod value;
 mod writer;
 
-pub use fault::{EntryLineFault, ManifestFault, TEXT_MAX};
+pub use fault::{EntryLineFault, MANIFEST_MAX, ManifestFault};
 pub use manifest_words::LineKind;
 pub use reader::read;
 pub use single::{read_entry, read_path};
-pub use writer::write;
+pub use writer::{EMPTY_MANIFEST, write};

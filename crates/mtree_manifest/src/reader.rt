@@ -1,5 +1,5 @@
 //! Reading a manifest into a tree.
-ghost use Rattle.mtree_manifest.specs.declared.fault.TheConstants.{TEXT_MAX};
+ghost use Rattle.mtree_manifest.specs.declared.fault.TheConstants.{MANIFEST_MAX};
 ghost use Rattle.mtree_manifest.specs.declared.fault.ManifestFault.TheVariants as faults;
 ghost use Rattle.std.specs.Prelude.{◌≡◌, ◌⊎◌, ◌≤◌, Some, None, length, OnOk, IfOk, IfErr, IsErrOf, IsTrue};
 ghost use Rattle.mtree_manifest.specs.Ends.{Ends};
@@ -15,7 +15,7 @@ ghost use Rattle.manifest_words.specs.Views.{values_in, given_in};
 
 use crate::dirs::Dirs;
 use crate::entry::{find_place, is_dir, node_of, put_node, target_fault};
-use crate::fault::{ManifestFault, TEXT_MAX};
+use crate::fault::{MANIFEST_MAX, ManifestFault};
 use crate::line::{Head, Line, add_physical, goes_on, start_line};
 use crate::value::LastValue;
 use bstr::ByteSlice;
@@ -191,7 +191,7 @@ fn take_physical<'a>(
 // Reads all lines of a text.
 #[tactic(auto, using(crate::proofs::Goods::none_good, crate::proofs::Progressing::physicals, crate::proofs::Counting::few_lines))]
 fn read_lines<'a>(reader: &mut Reader<'a>, text: &'a [u8]) -> Result<(), ManifestFault>
-    requires short { length text.now ≤ TEXT_MAX }
+    requires short { length text.now ≤ MANIFEST_MAX }
     requires start { state_in reader.old ≡ no_lines }
     ensures { Ends result (with_lines no_lines (lines_in text.entry.now)) (state_in reader.new) }
 {
@@ -209,12 +209,12 @@ fn read_lines<'a>(reader: &mut Reader<'a>, text: &'a [u8]) -> Result<(), Manifes
 pub fn read(alloc: Global, text: &[u8]) -> Result<Tree, ManifestFault>
     ensures tree { IfOk result (λ tree. tree_of text.now ≡ Some tree) }
     ensures fault { IfErr result (λ fault. (fault ≡ faults.NoMemory) ⊎ (first_bad text.now ≡ Some fault)) }
-    ensures no_memory { IsErrOf result faults.NoMemory → length text.now ≤ TEXT_MAX }
+    ensures no_memory { IsErrOf result faults.NoMemory → length text.now ≤ MANIFEST_MAX }
 
     // The tree is made of the result of `decoded` for each word. This is the text that the word represents.
     ensures words { DecodesAll }
 {
-    if text.len() > TEXT_MAX {
+    if text.len() > MANIFEST_MAX {
         return Err(ManifestFault::TooLong {
             length: text.len() as u64,
         });

@@ -5,7 +5,7 @@ ghost use Rattle.std.specs.Str.{bytes_eq};
 ghost use Rattle.mtree_manifest.specs.Canon.{id_words, key_words, file_words, node_words, node_line, canon};
 ghost use Rattle.manifest_words.specs.Escape.{is_unescaped, octal_digits, escaped_byte, escaped};
 ghost use Rattle.mtree_manifest.specs.Manifest.{tree_of};
-ghost use Rattle.mtree_manifest.specs.declared.fault.TheConstants.{TEXT_MAX};
+ghost use Rattle.mtree_manifest.specs.declared.fault.TheConstants.{MANIFEST_MAX};
 ghost use Rattle.mtree_manifest.specs.declared.writer.TheConstants.{ID_SIZE};
 ghost use Rattle.image_tree.specs.Tree.{IsTree};
 ghost use Rattle.manifest_words.specs.Range.{AreBytes, IsIdInRange, IsSomeIdInRange, IsNodeInRange, IsInRange, AreInRange};
@@ -171,14 +171,17 @@ fn push_lines(out: &mut Vec<u8>, tree: &Tree) -> Result<(), NoMemory>
     Ok(())
 }
 
+/// The manifest of an empty tree.
+pub const EMPTY_MANIFEST: &[u8] = b"#mtree\n";
+
 /// Writes the canonical text of a tree: a line for each node, in the order of the tree.
 #[tactic(auto, unfolding(crate::specs::Canon::canon), using(crate::proofs::RoundTrip::read_again))]
 pub fn write(alloc: Global, tree: &Tree) -> Result<Vec<u8>, NoMemory>
     ensures text { IfOk result (λ text. text.items ≡ canon tree.now) }
-    ensures read_again { IfOk result (λ text. length text.items ≤ TEXT_MAX → tree_of text.items ≡ Some tree.now) }
+    ensures read_again { IfOk result (λ text. length text.items ≤ MANIFEST_MAX → tree_of text.items ≡ Some tree.now) }
 {
     let mut text = Vec::with_capacity(alloc, tree.len().saturating_mul(LINE_SIZE))?;
-    push_text(&mut text, b"#mtree\n")?;
+    push_text(&mut text, EMPTY_MANIFEST)?;
     push_lines(&mut text, tree)?;
     Ok(text)
 }

@@ -1,5 +1,5 @@
 // Texts at the limits and one beyond them.
-use mtree_manifest::{LineKind, ManifestFault, TEXT_MAX, read};
+use mtree_manifest::{LineKind, MANIFEST_MAX, ManifestFault, read};
 use std::alloc::Global;
 use std::process::Abort;
 use std::test::Fail;
@@ -63,9 +63,9 @@ fn texts_at_the_limits_are_read(rt: HostRuntime) -> Result<(), Fail> {
 fn long_texts_are_read(rt: HostRuntime) -> Result<(), Fail> {
     let alloc = rt.alloc();
     // one line, of as many bytes as a text may have
-    let mut text = with_repeated(alloc, b"./a ", b"mode=1 \\\n", (TEXT_MAX - 4) / 9, b"")?;
+    let mut text = with_repeated(alloc, b"./a ", b"mode=1 \\\n", (MANIFEST_MAX - 4) / 9, b"")?;
     assert_eq!(rt; count(alloc, text.as_slice()), Ok(1));
-    let missing = TEXT_MAX.saturating_sub(text.len());
+    let missing = MANIFEST_MAX.saturating_sub(text.len());
     push_repeated(&mut text, b"\n", missing)?;
     assert_eq!(rt; count(alloc, text.as_slice()), Ok(1));
     text.push(b'\n')?;

@@ -1,5 +1,4 @@
 mod Left
-mod Named
 mod Parts
 pub mod Repaired
 mod Rest

@@ -35,7 +35,7 @@ use Rattle.soname_links.proofs.Counted.{nodes_counted}
 use Rattle.soname_links.specs.Apply.{nodes_with}
 use Rattle.soname_links.specs.Plan.{links, with_links}
 use Rattle.tree_face.specs.Store.{Contents}
-use Rattle.partial_links.proofs.Named.{judged_named, info_named}
+use Rattle.library_search.proofs.Named.{judged_named, info_named}
 use Rattle.partial_links.proofs.Rest.{alike_with, plans_rest, same_search}
 use Rattle.partial_links.proofs.Whole.{part_tree}
 use Rattle.partial_links.specs.Partial.{HasPart, PlansRest, missing}

@@ -1,12 +1,13 @@
--- If a program of a directory has a listing, the command lists it.
+-- If the programs of a directory have listings, the command lists them.
 use Rattle.std.proofs.Common.{◌≡◌, ◌<◌, ◌≤◌, ◌∙◌, ◌⊎◌, length, Option, Some, None, Result, Ok, Err, inr, ap, refl, subst, sym, arith}
 use Rattle.std.specs.Result.{result_map_both}
 use Rattle.asking_runs.proofs.Completing.{by_image, failed}
 use Rattle.asking_runs.specs.Complete.{NoFault}
 use Rattle.asking_runs.specs.Faults.{of_list}
-use Rattle.asking_runs.specs.Resolve.{cache_of, listed_text}
+use Rattle.asking_runs.specs.Listings.{listed_text}
+use Rattle.asking_runs.specs.Resolve.{cache_of}
 use Rattle.asking_runs.specs.declared.fault.ListFault.{ListFault}
-use Rattle.asking_runs.specs.declared.resolve.Listed.{Listed}
+use Rattle.asking_runs.specs.declared.listings.Listed.{Listed}
 use Rattle.command_status.specs.Ending.{AnswerText, EndsAs}
 use Rattle.command_status.specs.declared.status.Status.{Status}
 use Rattle.command_status.specs.declared.status.Status.TheVariants.{Done, Missing, NoMemory}
@@ -51,7 +52,7 @@ module _ (asked : Resolve) (before after : FolderState) (old new : DeviceStates)
     by_read (Ok image) answer reads answers ends =
         let tree = subst (λ (c : Option FolderContent). IfKnown c (λ c. image.tree ≡ c.now)) of_dir reads.tree.tree in
         let cache = subst (λ (c : Option DiskContent). IfKnown c (λ c. c.now.cache ≡ image.cache)) of_disk reads.cache.content in
-        by_image old new status asked held Debian dir.now right.entries right.listing none image answers.listed of_store tree (sym (ap cache_of cache) ∙ right.cache_is) answers.lists
+        by_image old new status asked held Debian dir.now right.entries right.listings none image answers.listed of_store tree (sym (ap cache_of cache) ∙ right.cache_is) answers.lists
         (as_listed answers.listed (subst EndsBy answers.answer_is ends))
     by_read (Err (reading.Tree (trees.Failed at))) answer reads answers ends = absurd (risen reads.tree.reads.failed.0)
     by_read (Err (reading.Tree trees.TooLarge)) answer reads answers ends =

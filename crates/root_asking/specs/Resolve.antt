@@ -1,10 +1,11 @@
--- The command `resolve` of a directory that has no manifest: what the loader loads for a program of it (ld.so(8); ldd(1) lists it).
+-- The command `resolve` of a directory that has no manifest: what the loader loads for programs of it (ld.so(8); ldd(1) lists it).
 use Rattle.std.specs.Prelude.{◌≡◌, ◌⊎◌, ◌≤◌, List, length, Option, Result, Ok, Err}
 use Rattle.std.specs.Result.{result_map_both}
 use Rattle.asking_runs.specs.Complete.{NoFault}
-use Rattle.asking_runs.specs.Resolve.{HasListing, ListsImage, cache_of, listed_text}
+use Rattle.asking_runs.specs.Listings.{listed_text}
+use Rattle.asking_runs.specs.Resolve.{HaveListings, ListsImage, cache_of}
 use Rattle.asking_runs.specs.declared.fault.ListFault.{ListFault}
-use Rattle.asking_runs.specs.declared.resolve.Listed.{Listed}
+use Rattle.asking_runs.specs.declared.listings.Listed.{Listed}
 use Rattle.cache_reader.specs.Cache.{CachedEntry}
 use Rattle.command_status.specs.Ending.{AnswerText, EndsAs}
 use Rattle.command_status.specs.declared.status.Status.{Status}
@@ -29,7 +30,7 @@ use Rattle.tree_face.specs.Stream.{SinkState, SourceState}
 
 -- ---- the answer
 
--- The program is listed as one of an image, but all built-in directories are searched.
+-- The programs are listed as those of an image, but all built-in directories are searched.
 pub record ListsRoot (asked : Resolve) (image : ReadImage) (answer : Result AnswerText RootListFault) (old new : StoreState) : Type 0 where
   pub listed : Result AnswerText ListFault
   pub lists : ListsImage Debian asked image listed old new
@@ -42,14 +43,14 @@ AnswersRoot asked (Err fault) answer old new = (answer ≡ Err (faults.Read faul
 
 -- ---- completeness
 
--- the tree isn't too large, the cache is in order if there is one, and the program has a listing
+-- the tree isn't too large, the cache is in order if there is one, and each program has a listing
 pub record IsRootAnswerable (asked : Resolve) (tree : Nodes) (held : Contents) (cache : Content) : Type 0 where
   pub small : length tree ≤ NODES_MAX
   pub entries : Option (List CachedEntry)
   pub cache_is : cache_of cache ≡ Ok entries
-  pub listing : HasListing Debian asked tree entries held
+  pub listings : HaveListings Debian asked tree entries held
 
--- If the program has a listing, it is listed, unless an interface fails or memory runs out.
+-- If each program has a listing, all are listed, unless an interface fails or memory runs out.
 abbrev pub CompletesRoot : Resolve → Nodes → Contents → Content → FolderState → FolderState → DeviceStates → DeviceStates → Status → Type 0
 CompletesRoot asked tree held cache before after old new status =
     IsRootAnswerable asked tree held cache → (HasRisen before.faults after.faults → ⊥) → NoFault old new → ((status ≡ Done) ⊎ (status ≡ Missing)) ⊎ (status ≡ NoMemory)

@@ -14,12 +14,12 @@ pub(crate) enum ReadFault {
     Cache(SlotFault),
 }
 
-/// Why a program of a directory isn't listed.
+/// Why programs of a directory aren't listed.
 #[derive(Drop)]
 pub(crate) enum RootListFault {
     /// The directory can't be read.
     Read(ReadFault),
-    /// The cache is malformed, or the program has no listing.
+    /// The cache is malformed, or a program's libraries can't be searched for.
     List(ListFault),
 }
 

@@ -1,6 +1,6 @@
 //! The command `resolve` of a directory.
 ghost use Rattle.std.specs.Prelude.{◌≡◌};
-ghost use Rattle.asking_runs.specs.Resolve.{listed_text};
+ghost use Rattle.asking_runs.specs.Listings.{listed_text};
 ghost use Rattle.root_asking.specs.Resolve.{AnswersRoot, ResolvesWithoutInput, asked_states, root_answer};
 
 use crate::fault::{ReadFault, RootListFault};
@@ -33,7 +33,7 @@ fn resolve<S: Store>(
     }
 }
 
-/// Runs the command `resolve` for a program of a directory that has no manifest. It searches all built-in directories. It
+/// Runs the command `resolve` for programs of a directory that has no manifest. It searches all built-in directories. It
 /// writes nothing but the answer. The input may be in any state, because nothing is read from it.
 pub fn resolve_root<F: Folder, S: Store, D: Disk, O: Sink>(
     alloc: Global,

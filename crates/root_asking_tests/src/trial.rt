@@ -5,21 +5,21 @@ use image_rows::{
     CACHE, DISK_FAILS, FILES, LOADER, MANIFEST, STORE_FAILS, disk_of, env_of, is_made, slots_in,
     store_of, tree_of,
 };
-use lib_types::{NoMemory, Text};
+use lib_types::NoMemory;
 use root_asking::resolve_root;
 use root_folder::MemFolder;
 use rpath_search::Env;
 use std::alloc::Global;
-use table_rows::{Differences, Row, Trial, Words, calls, count, lines_in, value};
+use table_rows::{Differences, Row, Trial, Words, calls, count, lines_in, values};
 use tree_face::{MemDisk, MemSink};
 
-/// A row has the tree of a directory as a manifest, the store's files, the cache, the loader's environment, the path of the program, and
-/// the calls that fail. It has the exit status, the output, the keys of the files that are opened, and the files that are read from the
+/// A row has the tree of a directory as a manifest, the store's files, the cache, the loader's environment, the paths of the programs,
+/// and the calls that fail. It has the exit status, the output, the keys of the files that are opened, and the files that are read from the
 /// disk.
 pub(crate) struct Listed;
 
 fn asked_of(alloc: Global, row: Row<'_>) -> Result<Resolve, NoMemory> {
-    let path = Text::copy_of(alloc, value(row, b"main-program").unwrap_or(b""))?;
+    let paths = values(alloc, row, b"main-program")?;
     let Env {
         caps,
         library_path,
@@ -28,7 +28,7 @@ fn asked_of(alloc: Global, row: Row<'_>) -> Result<Resolve, NoMemory> {
         ..
     } = env_of(alloc, row)?;
     Ok(Resolve {
-        path,
+        paths,
         caps,
         library_path,
         platform,

@@ -4,7 +4,7 @@ ghost use Rattle.image_tree.specs.Node.{has_no_nul, is_target};
 ghost use Rattle.root_links.specs.Links.{are_valid, is_valid, link_of, links_in};
 
 use root_links::NewLink;
-use tree_face::{TEXT_MAX, is_path};
+use tree_face::{NODE_TEXT_MAX, is_path};
 
 fn has_no_nul(bytes: &[u8]) -> bool
     ensures { result ≡ has_no_nul bytes.now }
@@ -15,7 +15,7 @@ fn has_no_nul(bytes: &[u8]) -> bool
 fn is_target(target: &[u8]) -> bool
     ensures { result ≡ is_target target.now }
 {
-    !target.is_empty() && target.len() <= TEXT_MAX && has_no_nul(target)
+    !target.is_empty() && target.len() <= NODE_TEXT_MAX && has_no_nul(target)
 }
 
 fn is_valid(link: &NewLink<'_>) -> bool

@@ -4,7 +4,7 @@ ghost use Rattle.std.specs.Str.{bytes_eq};
 ghost use Rattle.root_real.specs.Extent.{caps, has_name, is_cap_dir, leads_out, names_in, target_in};
 
 use device_rules::{divided, has_up};
-use lib_types::has_byte;
+use lib_types::{HWCAPS_DIR, has_byte};
 use name_order::is_library_name;
 
 /// The names in a directory that belong to a tree.
@@ -78,7 +78,7 @@ impl Extent {
 fn is_caps(name: &[u8]) -> bool
     ensures { result ≡ bytes_eq name.now caps }
 {
-    name == b"glibc-hwcaps".as_slice()
+    name == HWCAPS_DIR
 }
 
 // Whether this is the path of a glibc-hwcaps subdirectory.

@@ -6,11 +6,11 @@ ghost use Rattle.std.specs.Ordering.{nat_cmp};
 
 use crate::extent::{Extent, Names};
 use crate::paths::{dir_below_root, no_path};
-use device_rules::is_no_text;
+use device_rules::{divided, is_no_text};
 use image_folder::{HeldFile, ImageFolder, Missing};
 use lib_types::{NoMemory, Text, Texts, is_name};
 use std::alloc::Global;
-use std::fs::{DirEntry, read_dir};
+use std::fs::{DirEntry, FileType, read_dir};
 use std::io::{self, Error, ErrorKind};
 use std::os::unix::fs::MetadataExt;
 use std::rt::Runtime;
@@ -103,16 +103,40 @@ where
     }
 }
 
-// Enters a directory, and returns whether it is on this device. The result is false if the path is not a directory.
+// Enters a directory, and returns whether it is on this device. The result is false for a file that only counts as a directory.
 fn enter_on<R: Runtime>(image: &mut ImageFolder<R>, device: u64, dir: &str) -> io::Result<bool>
 where
     R::File: HeldFile,
 {
     match image.enter(dir, Missing::IsFault) {
         Ok(()) => Ok(device_here(image)? == device),
-        Err(error) if error.kind() == ErrorKind::NotADirectory => Ok(false),
+        Err(error) if error.kind() == ErrorKind::NotADirectory => {
+            if is_special(image, dir)? {
+                Ok(false)
+            } else {
+                Err(error)
+            }
+        }
         Err(error) => Err(error),
     }
+}
+
+// Whether the path, which leads to no directory, leads to another file that counts as one.
+fn is_special<R: Runtime>(image: &mut ImageFolder<R>, dir: &str) -> io::Result<bool>
+where
+    R::File: HeldFile,
+{
+    let (folder, name) = divided(dir);
+    image.enter(folder, Missing::IsFault)?;
+    match image.look(name)? {
+        Some(found) => Ok(counts_as_folder(found.file_type())),
+        None => Ok(false),
+    }
+}
+
+// Whether a file of this type counts as a directory in a tree: no link may replace it.
+fn counts_as_folder(kind: FileType) -> bool {
+    !kind.is_file() && !kind.is_symlink()
 }
 
 /// Lists a directory on this device: its names that belong to the tree, in the order of their bytes, each once. The list is empty for a

@@ -17,13 +17,11 @@ use crate::kinds::Found;
 use crate::loaders::Loaders;
 use elf_dynamic::kinds::Object;
 use elf_dynamic::{ObjectFault, object};
-use lib_types::{Abi, Text, Texts};
+use lib_types::{Abi, ET_EXEC, Text, Texts};
 use path_walk::file_at;
 use std::alloc::Global;
 use string_pool::TextSet;
 use tree_face::{Node, Store, Tree};
-
-const ET_EXEC: u16 = 2;
 
 /// The loaded files, by their paths without links.
 #[derive(Drop)]

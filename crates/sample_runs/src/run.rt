@@ -7,6 +7,7 @@ use crate::files::{SampleFile, content, key, sample_files};
 use crate::sample::sample_on;
 use command_status::Status;
 use lib_types::{NoMemory, Text};
+use mtree_manifest::EMPTY_MANIFEST;
 use std::alloc::Global;
 use tree_face::{Sink, SureDisk, SureStore};
 
@@ -55,7 +56,7 @@ pub fn run_sample<O: Sink>(alloc: Global, n: u16, out: &mut O) -> Status
     let Ok(pairs) = contents(alloc, n) else {
         return Status::NoMemory;
     };
-    let Ok(manifest) = Vec::from_slice(alloc, b"#mtree\n") else {
+    let Ok(manifest) = Vec::from_slice(alloc, EMPTY_MANIFEST) else {
         return Status::NoMemory;
     };
     let mut store = SureStore::new(pairs);

@@ -7,8 +7,8 @@ use std::alloc::Global;
 use std::test::Fail;
 use tree_face::{MemStore, SureDisk, SureSink};
 
-const TEXT: &str = "update 1: 1 libs, 1 links, 1 files opened, 174 bytes
-update 2: 1 libs, 1 links, 1 files opened, 174 bytes
+const TEXT: &str = "update 1: 1 libs, 1 links, 1 files opened, 162 bytes
+update 2: 1 libs, 1 links, 1 files opened, 162 bytes
 lookups: 1 found of 1
 readings: 6 first, 1 tag 0, 3 tag 1
 ";

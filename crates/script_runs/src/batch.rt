@@ -9,12 +9,13 @@ ghost use Rattle.update_runs.specs.Update.{states};
 use crate::lines::run_lines;
 use command_status::{Status, put_fault_line};
 use image_session::Session;
+use mtree_manifest::MANIFEST_MAX;
 use std::mem::forget;
 use tree_face::{Disk, ReadFault, Sink, Source, Store, read_all};
 use update_runs::Updater;
 
 /// The most bytes of a script.
-pub const SCRIPT_MAX: usize = 1 << 26;
+pub const SCRIPT_MAX: usize = MANIFEST_MAX;
 
 // The status when the input can't be read to its end.
 fn status_of(fault: ReadFault) -> Status

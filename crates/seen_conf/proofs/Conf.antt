@@ -14,7 +14,7 @@ use Rattle.path_walk.specs.declared.walk.Mode.TheVariants.{Plain}
 use Rattle.root_folder.specs.Whole.{IsWhole}
 use Rattle.seen_conf.proofs.Items.{AreRead, AreSame, Files, GiveSame, following, read_parts, step_same, until_both}
 use Rattle.seen_conf.proofs.Steps.{steps_seen}
-use Rattle.seen_conf.specs.Conf.{file_paths, items_looked, patterns_looked}
+use Rattle.ldso_conf.specs.Looked.{file_paths, items_looked, patterns_looked}
 use Rattle.conf_views.specs.Patterns.{results_looked}
 use Rattle.seen_tree.proofs.Same.{seen_parts}
 use Rattle.seen_tree.specs.Part.{AreSeen, IsPart, looked_by}

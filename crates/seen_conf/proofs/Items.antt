@@ -8,7 +8,7 @@ use Rattle.conf_views.specs.declared.view.FoundFile.{FoundFile}
 use Rattle.image_tree.specs.Tree.{Nodes}
 use Rattle.ldso_conf.specs.Reading.{Item, asked_by, is_missing, until_missing}
 use Rattle.ldso_conf.proofs.Asked.{step_items}
-use Rattle.seen_conf.specs.Conf.{item_paths, patterns_looked}
+use Rattle.ldso_conf.specs.Looked.{item_paths, patterns_looked}
 use Rattle.conf_views.specs.Patterns.{results_looked}
 use Rattle.seen_tree.proofs.Same.{seen_parts}
 use Rattle.seen_tree.specs.Part.{AreSeen}

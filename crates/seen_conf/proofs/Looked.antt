@@ -14,7 +14,7 @@ use Rattle.root_folder.specs.Whole.{IsWhole}
 use Rattle.seen_conf.proofs.Conf.{items_seen}
 use Rattle.conf_views.proofs.Each.{flat_map_seen}
 use Rattle.conf_views.proofs.Patterns.{next_seen, parts_seen, place_seen, texts_seen}
-use Rattle.seen_conf.specs.Conf.{file_paths, include_paths, item_paths, items_listed, items_looked, line_paths, patterns_listed, patterns_looked}
+use Rattle.ldso_conf.specs.Looked.{file_paths, include_paths, item_paths, items_listed, items_looked, line_paths, patterns_listed, patterns_looked}
 use Rattle.conf_views.specs.Patterns.{choices_listed, choices_looked, dirs_in, listed_in, places_looked, results_listed, results_looked, texts_listed, texts_looked}
 use Rattle.seen_tree.proofs.Children.{names_seen}
 use Rattle.seen_tree.proofs.Same.{kind_seen, seen_parts, text_seen}

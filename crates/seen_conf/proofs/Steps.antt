@@ -9,7 +9,7 @@ use Rattle.ldso_conf.specs.Lines.{arguments_of, hwcap, include, lines_of, text_o
 use Rattle.ldso_conf.specs.Steps.{included, line_steps, numbered, origin_at, steps_by, steps_of}
 use Rattle.ldso_conf.specs.declared.kinds.Origin.{Origin}
 use Rattle.root_folder.specs.Whole.{IsWhole}
-use Rattle.seen_conf.specs.Conf.{file_paths, include_paths, line_paths}
+use Rattle.ldso_conf.specs.Looked.{file_paths, include_paths, line_paths}
 use Rattle.seen_tree.specs.Part.{AreSeen, IsPart}
 
 module _ (t part : Nodes) (whole : IsWhole t) (is : IsPart t part) where

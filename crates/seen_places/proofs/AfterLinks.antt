@@ -29,13 +29,13 @@ module _ (t part : Nodes) (whole : IsWhole t) (is : IsPart t part) (what : Analy
   abbrev part_after : Nodes
   part_after = with_links part (links what t places)
 
-  whole_after : IsWhole after
+  pub whole_after : IsWhole (with_links t (links what t places))
   whole_after = whole_planned t whole what named places dirs
 
-  is_after : IsPart after part_after
+  pub is_after : IsPart (with_links t (links what t places)) (with_links part (links what t places))
   is_after = part_planned t whole what named places dirs part is
 
-  names_after : AreSeen after part_after (wanted_looked after places)
+  pub names_after : AreSeen (with_links t (links what t places)) (with_links part (links what t places)) (wanted_looked (with_links t (links what t places)) places)
   names_after = wanted_with t part is plan whole_after.entries places dirs seen
 
   -- ---- the files with library names
@@ -49,7 +49,7 @@ module _ (t part : Nodes) (whole : IsWhole t) (is : IsPart t part) (what : Analy
   -- ---- the files that the links resolve to
 
   module _ (all : AreSeen t part (planned_looked t plan places)) where
-    links_after : AreSeen after part_after (followed_looked after places)
+    pub links_after : AreSeen (with_links t (links what t places)) (with_links part (links what t places)) (followed_looked (with_links t (links what t places)) places)
     links_after = followed_with plan t part places all
 
     pub followed_planned : followed part_after places ≡ followed after places

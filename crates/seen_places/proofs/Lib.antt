@@ -1,4 +1,6 @@
 pub mod AfterLinks
+pub mod Asked
+pub mod Covered
 pub mod Each
 pub mod Entries
 pub mod Files
@@ -9,3 +11,4 @@ pub mod Planned
 pub mod Info
 pub mod Sonames
 pub mod Stage
+pub mod Through

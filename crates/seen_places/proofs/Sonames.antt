@@ -44,12 +44,12 @@ module _ (t : Nodes) (d : List ℕ) (dir : kind_at t d ≡ kinds.Dir) (z : List 
       and_from _ _ ((starts_is Decides-eqb (join d z) (folder d) (is_below d (join d z)) refl).1 z refl) ((bytes_eq-Decides z _).1 name)
 
   -- a name with a node is in the directory
-  child_of_node : (n : Node) → node_at t (join d z) ≡ Some n → is_in (children_of t d) z ≡ true
+  pub child_of_node : (n : Node) → node_at t (join d z) ≡ Some n → is_in (children_of t d) z ≡ true
   child_of_node n e =
       ap (λ kind. is_in (of_dir kind (dedup bytes_eq (names_below t d))) z) dir ∙ dedup_in (bytes_eq z) (names_below t d) ∙ in_below t
       ∙ found_any (λ (f : List ℕ × Node). goes_by f.0) t (join d z) n e goes_itself
 
-  no_node : is_in (children_of t d) z ≡ false → node_at t (join d z) ≡ None
+  pub no_node : is_in (children_of t d) z ≡ false → node_at t (join d z) ≡ None
   no_node none = by (node_at t (join d z)) refl
     where
       by : (o : Option Node) → node_at t (join d z) ≡ o → o ≡ None

@@ -1,4 +1,4 @@
-mod Calls
+pub mod Calls
 pub mod Children
 mod Found
 pub mod Looked

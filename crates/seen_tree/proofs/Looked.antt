@@ -1,16 +1,18 @@
 -- The paths that were looked up, and the part of the tree that was seen there.
 use Rattle.std.proofs.Common.{◌≡◌, ◌⊎◌, inl, inr, ◌≤◌, ℕ, Bool, true, false, cond, ◌&&◌, ◌||◌, not, fold, List, [], ◌∷◌, ◌++◌, refl, ap, sym, subst, ◌∙◌, Option, Some, None}
 use Rattle.std.proofs.Math.Bool.{or-true}
-use Rattle.std.proofs.lemmas.Bool.{and_from, and_parts, false≢true}
+use Rattle.std.proofs.lemmas.Bool.{and_from, and_parts, false≢true, or_parts}
 use Rattle.std.proofs.lemmas.List.Folds.{list_any-append}
 use Rattle.std.proofs.lemmas.Slice.Eq.{bytes_eq-Decides}
 use Rattle.std.specs.List.{list_any}
 use Rattle.std.specs.List.Sorted.{IsStrictlySortedBy}
+use Rattle.std.specs.Option.{is_some}
 use Rattle.std.specs.Str.{bytes_eq}
 use Rattle.indexmap.specs.IndexSet.{insert_key}
 use Rattle.lib_types.proofs.Bools.{not_true}
 use Rattle.lib_types.proofs.SortedPairs.{by_test}
 use Rattle.image_tree.proofs.Above.{path_of_found}
+use Rattle.image_tree.proofs.OneMore.{put_other}
 use Rattle.image_tree.specs.Paths.{is_path}
 use Rattle.image_tree.specs.Tree as tree
 use Rattle.image_tree.specs.Tree.{Nodes, clashes, node_at}
@@ -19,7 +21,7 @@ use Rattle.root_folder.specs.Folder.{FolderContent}
 use Rattle.root_folder.specs.Whole.{IsWhole}
 use Rattle.tree_face.specs.Known.{IfKnown}
 use Rattle.seen_tree.proofs.WithNode.{no_clash, others_seen, part_with, seen_here}
-use Rattle.seen_tree.specs.Part.{AreSeen, IsPart, IsSeen}
+use Rattle.seen_tree.specs.Part.{AreSeen, IsPart, IsSeen, KeepsNodes}
 use Rattle.seen_tree.specs.Seen.{HasSeen, IsSeenOf, Seen, are_looked, is_looked, seen, with_found, with_path, with_paths}
 
 -- ---- the paths that were looked up
@@ -139,10 +141,29 @@ module _ (t : Nodes) (whole : IsWhole t) (part : Nodes) (is : IsPart t part) (q 
       by : (o : Option Node) → node_at part q ≡ o → IsSeen t part q
       by None f = f ∙ e
       by (Some n) f = let z : None ≡ Some n = e ∙ is.nodes q n f in absurd (cc)
-  more (Some n) e =
+  more (Some n) e = by_test (is_some (node_at part q))
+      (λ h. subst IsMore (sym (ap (λ b. cond (b || clashes part q n) part (tree.put part q n)) h)) (record { one = is; here = there (node_at part q) refl h; others = λ z s. s }))
+      (λ h.
       let at = sym e in
-      subst IsMore (sym (ap (λ b. cond b part (tree.put part q n)) (no_clash t part is q n at whole)))
-      (record { one = part_with t part is q n at whole; here = seen_here t part is q n at; others = others_seen t part is q n at })
+      subst IsMore (sym (ap (λ b. cond (b || clashes part q n) part (tree.put part q n)) h ∙ ap (λ b. cond b part (tree.put part q n)) (no_clash t part is q n at whole)))
+      (record { one = part_with t part is q n at whole; here = seen_here t part is q n at; others = others_seen t part is q n at }))
+    where
+      there : (o : Option Node) → node_at part q ≡ o → is_some o ≡ true → IsSeen t part q
+      there None f h = absurd (false≢true h)
+      there (Some m) f h = f ∙ sym (is.nodes q m f)
+
+-- each node stays when another is added
+pub nodes_stay : (part : Nodes) (q : List ℕ) (found : Option Node) → KeepsNodes part (with_found part q found)
+nodes_stay part q None = λ z m e. e
+nodes_stay part q (Some n) = λ z m e. by_test (is_some (node_at part q) || clashes part q n)
+    (λ h. subst (λ b. node_at (cond b part (tree.put part q n)) z ≡ Some m) (sym h) e)
+    (λ h. subst (λ b. node_at (cond b part (tree.put part q n)) z ≡ Some m) (sym h)
+    (by_test (bytes_eq z q)
+    (λ s. absurd (is_there m (node_at part q) (ap (node_at part) (sym ((bytes_eq-Decides z q).0 s)) ∙ e) (or_parts (is_some (node_at part q)) (clashes part q n) h).0))
+    (λ s. put_other q n z s part ∙ e)))
+  where
+    is_there : (m : Node) (o : Option Node) → o ≡ Some m → is_some o ≡ false → ⊥
+    is_there m o f h = false≢true (sym h ∙ ap is_some f)
 
 each_still : (t part new : Nodes) (looked : List (List ℕ)) → ((z : List ℕ) → IsSeen t part z → IsSeen t new z) → AreSeen t part looked → AreSeen t new looked
 each_still t part new [] f all = tt

@@ -25,6 +25,10 @@ IsSeen t part q = node_at part q ≡ node_at t q
 abbrev pub AreSeen : Nodes → Nodes → List (List ℕ) → Type 0
 AreSeen t part paths = AllByRecursion (IsSeen t part) paths
 
+-- each node that was there is still there
+abbrev pub KeepsNodes : Nodes → Nodes → Type 0
+KeepsNodes old new = (q : List ℕ) (n : Node) → node_at old q ≡ Some n → node_at new q ≡ Some n
+
 -- ---- the paths that a path resolution looks up
 
 -- the resolution continues with further names only below a directory

@@ -2,11 +2,12 @@
 use Rattle.std.specs.Prelude.{◌≡◌, ◌⊎◌, ◌≤◌, ℕ, Bool, List, [], ◌++◌, ◌||◌, not, if◌then◌else◌, fold, length, Option, Some, None}
 use Rattle.std.specs.List.{AllByRecursion, filter_map, list_all, list_any}
 use Rattle.std.specs.Map.{keys_of}
+use Rattle.std.specs.Option.{is_some}
 use Rattle.std.specs.Str.{bytes_eq}
 use Rattle.indexmap.specs.IndexSet.{insert_key}
 use Rattle.lib_types.specs.Counts.{raised}
 use Rattle.image_tree.specs.Paths.{is_path}
-use Rattle.image_tree.specs.Tree.{Nodes, children_of, clashes, put}
+use Rattle.image_tree.specs.Tree.{Nodes, children_of, clashes, node_at, put}
 use Rattle.image_tree.specs.declared.node.Node.{Node}
 use Rattle.image_tree.specs.declared.tree.TheConstants.{NODES_MAX}
 use Rattle.root_folder.specs.Folder.{FolderState}
@@ -52,9 +53,9 @@ with_dirs dirs more = fold (insert_key bytes_eq) dirs more
 abbrev pub IsFull : Seen → Type 0
 IsFull s = (NODES_MAX ≤ length s.looked) ⊎ (NODES_MAX ≤ length s.part)
 
--- adds the node that was found at a path, unless it clashes with the other nodes
+-- adds the node that was found at a path, unless there is one already, or it clashes with the other nodes
 abbrev pub with_found : Nodes → List ℕ → Option Node → Nodes
-with_found t path (Some node) = if clashes t path node then t else put t path node
+with_found t path (Some node) = if is_some (node_at t path) || clashes t path node then t else put t path node
 with_found t path None = t
 
 -- ---- what is known of them

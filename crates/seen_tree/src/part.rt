@@ -9,6 +9,7 @@ ghost use Rattle.image_tree.specs.declared.tree.TheConstants.{NODES_MAX};
 ghost use Rattle.root_tree.specs.ReadTree.{ReadsOn};
 ghost use Rattle.root_tree.specs.SoFar.{is_of_adding};
 ghost use Rattle.root_tree.specs.declared.fault.TreeRead.TheVariants as reads;
+ghost use Rattle.seen_tree.specs.Part.{KeepsNodes};
 ghost use Rattle.seen_tree.specs.Seen.{LooksMore, Sees, seen, with_found};
 
 use crate::fault::fault_at;
@@ -25,7 +26,7 @@ use tree_face::{Kind, NODES_MAX, Node, Tree, TreeFault, is_path};
 fn keep(tree: &mut Tree, path: &[u8], found: Option<Node>) -> Result<(), TreeRead>
     requires path { IsTrue (is_path path.now) }
     requires valid { IfSome found (λ node. IsTrue (is_node node)) }
-    ensures kept { OnOk result (tree.new ≡ with_found tree.old path.now found) }
+    ensures node { OnOk result (tree.new ≡ with_found tree.old path.now found) }
     ensures refused { OnErr result (tree.new ≡ tree.old) }
     ensures full { IsErrOf result reads.TooLarge → NODES_MAX ≤ length tree.old }
     ensures others { IfErr result (λ fault. is_of_adding fault ≡ true) }
@@ -33,6 +34,9 @@ fn keep(tree: &mut Tree, path: &[u8], found: Option<Node>) -> Result<(), TreeRea
     let Some(node) = found else {
         return Ok(());
     };
+    if tree.node(path).is_some() {
+        return Ok(());
+    }
     match tree.put(path, node) {
         Ok(()) => Ok(()),
         Err(TreeFault::Clash) => Ok(()),
@@ -48,7 +52,8 @@ fn add_path(looked: &mut IndexSet<Text>, path: Text) -> Result<(), NoMemory>
     Ok(())
 }
 
-// Adds a path and the node that was found there.
+// Adds the node that was found at a path, and then the path.
+#[tactic(auto, using(crate::proofs::Looked::nodes_stay))]
 fn add(
     tree: &mut Tree,
     looked: &mut IndexSet<Text>,
@@ -58,13 +63,15 @@ fn add(
 ) -> Result<(), TreeRead>
     requires path { IsTrue (is_path path.now) }
     requires valid { IfSome found (λ node. IsTrue (is_node node)) }
-    ensures kept { OnOk result (tree.new ≡ with_found tree.old path.now found) }
+    ensures node { OnOk result (tree.new ≡ with_found tree.old path.now found) }
     ensures added { OnOk result (looked.new.keys ≡ insert_key bytes_eq looked.old.keys text) }
+    ensures kept { KeepsNodes tree.old tree.new }
     ensures full { IsErrOf result reads.TooLarge → NODES_MAX ≤ length tree.new }
     ensures others { IfErr result (λ fault. is_of_adding fault ≡ true) }
 {
+    keep(tree, path, found)?;
     add_path(looked, text)?;
-    keep(tree, path, found)
+    Ok(())
 }
 
 // Looks up a path for the first time.
@@ -80,6 +87,7 @@ fn look_new<F: Folder>(
     requires new { list_any (bytes_eq path.now) looked.old.keys ≡ false }
     ensures seen { OnOk result (Sees (F.state folder.old) (seen tree.old looked.old.keys) (seen tree.new looked.new.keys) (λ t. path.now ∷ [])) }
     ensures looks { OnOk result (LooksMore looked.old.keys looked.new.keys (F.state folder.old) (F.state folder.new)) }
+    ensures kept { KeepsNodes tree.old tree.new }
     ensures full { IsErrOf result reads.TooLarge → NODES_MAX ≤ length tree.new }
     ensures reads { ReadsOn result (F.state folder.old) (F.state folder.new) }
 {
@@ -164,11 +172,12 @@ impl SeenPart {
 
     /// Looks up a path, unless it was looked up before. The root, and a text that isn't a valid path, need not be looked up.
     ///
-    /// Returns TooLarge if 2^20 paths have been looked up. After an error the part may lack a node.
+    /// Returns TooLarge if 2^20 paths have been looked up. After an error each node that was found before is still there.
     #[tactic(auto, using(crate::proofs::Looked::no_path, crate::proofs::Looked::was_seen, crate::proofs::Calls::no_more, crate::proofs::Looked::full_by_paths, crate::proofs::Looked::full_by_nodes))]
     pub fn see<F: Folder>(&mut self, folder: &mut F, path: &[u8]) -> Result<(), TreeRead>
         ensures seen { OnOk result (Sees (F.state folder.old) self.old self.new (λ t. path.now ∷ [])) }
         ensures looks { OnOk result (LooksMore self.old.looked self.new.looked (F.state folder.old) (F.state folder.new)) }
+        ensures kept { KeepsNodes self.old.part self.new.part }
         ensures full { IsErrOf result reads.TooLarge → IsFull self.new }
         ensures reads { ReadsOn result (F.state folder.old) (F.state folder.new) }
     {

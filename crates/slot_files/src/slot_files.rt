@@ -8,12 +8,13 @@ use crate::temporary::{Temporary, make_own, remove_left};
 use device_rules::{
     Existing, HEAD_SIZE, Owner, RunId, SlotPaths, Stamp, entries_in, existing_of, has_room,
     is_as_read, is_missing, largest, length_to_read, mode_of, mode_until_whole, owner_of,
-    owner_to_give, stamp_of, too_long,
+    owner_to_give, stamp_of, strings_in, too_long,
 };
 use image_folder::{
     HeldFile, ImageFolder, Missing, changed, left_behind, open_file, read_whole, shorter,
 };
 use lib_types::NoMemory;
+use searchable_names::is_searchable;
 use standard_streams::{Streams, file_limit};
 use std::alloc::{AllocError, Global};
 use std::fs::{Metadata, OpenFile, Permissions};
@@ -31,6 +32,8 @@ pub struct Written {
     pub entries_before: Option<u32>,
     /// The entry count of the cache that was written.
     pub entries: Option<u32>,
+    /// Whether the loader can search for each string of the cache that was written, as far as this is known.
+    pub searchable: bool,
     /// The length of the manifest that was read.
     pub manifest_length: Option<u64>,
 }
@@ -245,6 +248,7 @@ where
         write_within(&mut temporary.file, limit, bytes)?;
         if slot == Slot::Cache {
             self.written.entries = entries_in(bytes);
+            self.written.searchable = strings_in(bytes).is_some_and(is_searchable);
         }
         Ok(())
     }

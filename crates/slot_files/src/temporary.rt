@@ -3,8 +3,8 @@ ghost use Rattle.std.specs.Prelude.{◌≡◌, true};
 ghost use Rattle.std.specs.Fs.{asks_create_new, asks_read, asks_write};
 
 use device_rules::{
-    Identity, MOST_NAMES, RunId, identity_of, is_missing, is_no_text, is_there, maker_of,
-    temporary_path,
+    Identity, MOST_NAMES, RunId, USUAL_MODE, identity_of, is_missing, is_no_text, is_there,
+    maker_of, temporary_path,
 };
 use image_folder::{HeldFile, ImageFolder, is_own, open_file};
 use std::fs::{self, DirEntry, OpenFile, OpenOptions, read_dir};
@@ -26,9 +26,6 @@ pub struct Temporary<R: Runtime> {
     /// The mode that it gets when it is complete.
     pub mode: u32,
 }
-
-// While they are written, other users can't write new files, whatever mode they get at the end.
-const NEW_MODE: u32 = 0o644;
 
 /// Makes an empty temporary file for the slot's file of this name, in the directory that was entered. It has a lock, which shows other
 /// runs that it is in use. Returns its name and its path, too.
@@ -92,7 +89,8 @@ fn new_file() -> OpenOptions
     ensures write { asks_write result ≡ true }
 {
     let mut options = OpenOptions::new();
-    options.mode(NEW_MODE);
+    // While it is written, other users can't write it, whatever mode it gets at the end.
+    options.mode(USUAL_MODE);
     options.read(true).write(true).create_new(true);
     options
 }

@@ -8,12 +8,12 @@ use Rattle.lib_types.specs.Name.{is_name}
 use Rattle.path_walk.proofs.NoNul.{name_clean}
 use Rattle.lib_types.specs.declared.name.TheConstants.{NAME_MAX}
 use Rattle.image_tree.specs.Node.{is_target}
-use Rattle.image_tree.specs.declared.node.TheConstants.{TEXT_MAX}
+use Rattle.image_tree.specs.declared.node.TheConstants.{NODE_TEXT_MAX}
 use Rattle.image_tree.specs.Paths.{is_path}
 use Rattle.soname_links.specs.Apply.{is_link, is_plan}
 use Rattle.link_plan.specs.declared.kinds.Planned.{Planned}
 
-longer : (n : ℕ) → nat_le n NAME_MAX ≡ true → nat_le n TEXT_MAX ≡ true
+longer : (n : ℕ) → nat_le n NAME_MAX ≡ true → nat_le n NODE_TEXT_MAX ≡ true
 longer n h = grind arith
 
 pub name_is_target : (name : List ℕ) → is_name name ≡ true → is_target name ≡ true

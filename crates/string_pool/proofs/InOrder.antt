@@ -67,19 +67,7 @@ located (s ∷ ts) t h = rw (offset_of_cons s ts t) (by (bytes_eq t s) refl (loc
         rw (← same, ← size) (take-append_seam (with_nul t) (table_of ts))
     by false e rest = ap (take (length t + 1)) (drop-append-add (with_nul s) (table_of ts) (offset_of ts t)) ∙ rest (sym (rw e refl) ∙ h)
 
-none_of : (a b : Bool) → (a || b) ≡ false → (a ≡ false) × (b ≡ false)
-none_of true b h = absurd (true≢false h)
-none_of false b h = (refl, h)
-
--- the offset of a new string is the length of the table before it
-pub new_last : (ts : List (List ℕ)) (t : List ℕ) → list_any (bytes_eq t) ts ≡ false → offset_of (ts ++ t ∷ []) t ≡ length (table_of ts)
-new_last [] t h = rw (offset_of_cons t [] t, (bytes_eq-Decides t t).1 refl) refl
-new_last (s ∷ ts) t h =
-    let parts = none_of (bytes_eq t s) (list_any (bytes_eq t) ts) h in
-    let rest = new_last ts t parts.1 in
-    rw (offset_of_cons s (ts ++ t ∷ []) t, parts.0) (omega (arith, length-append (with_nul s) (table_of ts), rest))
-
--- ---- what a pool stores
+-- ---- what a table stores
 
 -- the bytes of one more text
 pub table_push : (ts : List (List ℕ)) (t : List ℕ) → table_of (ts ++ t ∷ []) ≡ table_of ts ++ with_nul t

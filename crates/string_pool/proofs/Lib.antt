@@ -1,11 +1,23 @@
-mod Adding
 pub mod At
 pub mod Counted
 pub mod EachOnce
 pub mod Either
+pub mod Ends
+pub mod Gets
+pub mod Hosted
 pub mod InByteOrder
 pub mod InOrder
+pub mod Laying
+pub mod Located
 pub mod Members
 pub mod Numbers
+pub mod Offsets
 pub mod Ordered
+pub mod Placing
+pub mod Pooled
+pub mod Popped
+pub mod Sorted
+pub mod Stack
+pub mod Tops
 pub mod WithoutRepeats
+pub mod Written

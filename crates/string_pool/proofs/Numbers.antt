@@ -87,24 +87,6 @@ number_added ts t = by (list_any (bytes_eq t) ts) refl
     by true e = refl
     by false e = sym (new_number ts t e)
 
--- ---- whether a text is new
-
--- a text that doesn't change the length was already in the list
-pub not_new : (ts new : List (List ℕ)) (t : List ℕ) → new ≡ insert_key bytes_eq ts t → length new ≡ length ts → (list_any (bytes_eq t) ts ≡ true) × (new ≡ ts)
-not_new ts new t is same = by (list_any (bytes_eq t) ts) refl
-  where
-    by : (b : Bool) → list_any (bytes_eq t) ts ≡ b → (b ≡ true) × (new ≡ ts)
-    by true e = (refl, rw e at is)
-    by false e = let longer : new ≡ ts ++ t ∷ [] = rw e at is in absurd (omega (arith, same, ap length longer, length-append ts (t ∷ [])))
-
--- a text that changes the length is new and comes last
-pub is_new : (ts new : List (List ℕ)) (t : List ℕ) → new ≡ insert_key bytes_eq ts t → (length new ≡ length ts → ⊥) → (list_any (bytes_eq t) ts ≡ false) × (new ≡ ts ++ t ∷ [])
-is_new ts new t is other = by (list_any (bytes_eq t) ts) refl
-  where
-    by : (b : Bool) → list_any (bytes_eq t) ts ≡ b → (b ≡ false) × (new ≡ ts ++ t ∷ [])
-    by true e = let same : new ≡ ts = rw e at is in absurd (other (ap length same))
-    by false e = (refl, rw e at is)
-
 -- ---- the number of texts
 
 length_insert : (ts : List (List ℕ)) (t : List ℕ) → length (insert_key bytes_eq ts t) ≤ length ts + 1

@@ -1,4 +1,4 @@
--- What a pool stores: the offset of each text, and the bytes of all texts.
+-- What a table stores: the offset of each text, and the bytes of all texts.
 use Rattle.std.specs.Prelude.{◌≡◌, ℕ, ◌+◌, List, [], ◌∷◌, length}
 use Rattle.string_pool.specs.Texts.{with_nul}
 use Rattle.string_pool.specs.InOrder.{table_of}

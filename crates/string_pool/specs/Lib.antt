@@ -1,7 +1,11 @@
 pub mod At
+pub mod Backward
 pub mod Distinct
+pub mod Hosts
 pub mod InOrder
 pub mod Kept
+pub mod Laid
 pub mod Order
 pub mod Shared
+pub mod SharedEnds
 pub mod Texts

@@ -2,7 +2,7 @@
 ghost use Rattle.std.proofs.Common.{ap, sym};
 ghost use Rattle.std.specs.Cmp.{partial_equiv_from_equiv};
 ghost use Rattle.std.specs.Cmp.Lexicographic.{nat_list_eq_equiv, pointwise, same_text};
-ghost use Rattle.std.specs.Prelude.{◌≡◌, ◌∷◌, nat_eq, ◌^◌, ◌<◌, [], length, take, IfOk, OnOk, OnErr, bytes_eq};
+ghost use Rattle.std.specs.Prelude.{◌≡◌, ◌∷◌, nat_eq, ◌^◌, ◌<◌, [], length, IfOk, OnOk, OnErr, bytes_eq};
 ghost use Rattle.indexmap.specs.IndexSet.{insert_key};
 ghost use Rattle.string_pool.specs.Texts.{number_of};
 
@@ -108,13 +108,6 @@ impl<'a> Texts<'a> {
         ensures { result.now ≡ self.now }
     {
         self.texts.as_slice()
-    }
-
-    // Keeps the first `count` texts.
-    pub(crate) fn truncate(&mut self, count: usize)
-        ensures { self.new ≡ take count self.old }
-    {
-        self.texts.truncate(count);
     }
 }
 

@@ -8,7 +8,7 @@ mod stream;
 
 pub use disk::{Call, Disk, DiskRead, DoneCall, Slot, Tag};
 pub use image_tree::{
-    Children, Id, Kind, Listing, NODES_MAX, Node, Nodes, PATH_MAX, TEXT_MAX, Tree, TreeFault,
+    Children, Id, Kind, Listing, NODE_TEXT_MAX, NODES_MAX, Node, Nodes, PATH_MAX, Tree, TreeFault,
     is_below, is_kept, is_node, is_path,
 };
 pub use memory::{

@@ -1,2 +1,3 @@
 pub mod LinkerScript
+pub mod ScriptEnd
 pub mod Unknown

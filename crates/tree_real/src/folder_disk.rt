@@ -94,9 +94,14 @@ where
     /// A line of the manifest as it is now, counted from 1, without its newline. The manifest is read again. The reading doesn't count as
     /// a call of the disk.
     pub fn manifest_line(&mut self, alloc: Global, number: u64) -> io::Result<Vec<u8>> {
-        let text = self.files.read(alloc, Slot::Manifest)?;
-        let text = text.unwrap_or(Vec::new(alloc));
+        let text = self.manifest_text(alloc)?;
         Ok(Vec::from_slice(alloc, line_of(&text, number))?)
+    }
+
+    /// The manifest as it is now, or nothing if there is none. The reading doesn't count as a call of the disk.
+    pub fn manifest_text(&mut self, alloc: Global) -> io::Result<Vec<u8>> {
+        let text = self.files.read(alloc, Slot::Manifest)?;
+        Ok(text.unwrap_or(Vec::new(alloc)))
     }
 
     /// The bytes of the cache as it is now, if there is one. The reading doesn't count as a call of the disk.

@@ -6,6 +6,7 @@ mod folder_disk;
 mod folder_store;
 mod linker_script;
 mod machines;
+mod script_end;
 mod stdio;
 
 pub use folder_disk::FolderDisk;

@@ -3,6 +3,7 @@ ghost use Rattle.std.specs.Prelude.{◌≡◌, ◌≤◌, IfOk, length};
 ghost use Rattle.tree_real.specs.Unknown.{unknown_source, unknown_sink};
 
 use crate::counts::one_more;
+use crate::script_end::ScriptEnd;
 use lib_types::Failed;
 use standard_streams::{
     Streams, has_terminal, read_some, write_error_line, write_shown, write_some,
@@ -11,11 +12,18 @@ use std::io::{self, Error, ErrorKind};
 use std::rt::Runtime;
 use tree_face::{Sink, Source};
 
-/// The standard input.
+// The most bytes of the input that are kept for messages about its lines.
+const KEPT_MAX: usize = 1 << 20;
+
+/// The standard input. Its first 2^20 bytes are kept for messages.
 #[derive(Drop)]
 pub struct StdinSource<R: Runtime> {
     rt: R,
     reader: R::Reader,
+    end: ScriptEnd,
+    kept: Vec<u8, R::A>,
+    // How many more bytes may be kept.
+    room: usize,
     faults: u64,
 }
 
@@ -33,11 +41,44 @@ impl<R: Runtime> StdinSource<R> {
         ensures { result.faults ≡ 0 }
     {
         let reader = rt.reader();
+        let kept = Vec::new(rt.alloc());
         StdinSource {
             rt,
             reader,
+            end: ScriptEnd::new(),
+            kept,
+            room: KEPT_MAX,
             faults: 0,
         }
+    }
+
+    /// Whether what was read so far is a script that ends in edits: no `update` comes after the last `put` or `drop`.
+    pub fn ends_in_edits(&self) -> bool {
+        self.end.is_edit()
+    }
+
+    /// A line of the input, counted from 1, without its newline. None if the input has no such line, or it isn't among the bytes that are
+    /// kept.
+    pub fn line(&self, number: u64) -> Option<&[u8]> {
+        let at = usize::try_from(number.saturating_sub(1)).unwrap_or(usize::MAX);
+        let mut lines = self.kept.split(|b| *b == b'\n');
+        let line = lines.nth(at)?;
+        if self.room == 0 && lines.next().is_none() {
+            // The end of this line may not be kept.
+            return None;
+        }
+        Some(line)
+    }
+
+    // Keeps these bytes, which follow those that are kept. If memory for them is refused, no more are kept.
+    fn keep(&mut self, bytes: &[u8])
+        ensures { self.new.faults ≡ self.old.faults }
+    {
+        let count = bytes.len().min(self.room);
+        self.room = match self.kept.extend_from_slice(&bytes[..count]) {
+            Ok(()) => self.room - count,
+            Err(_) => 0,
+        };
     }
 }
 
@@ -73,7 +114,11 @@ impl<R: Runtime + Streams> Source for StdinSource<R> {
 
     fn read(&mut self, buf: &mut [u8]) -> Result<usize, Failed> {
         match read_some(&self.rt, &mut self.reader, buf) {
-            Ok(count) => Ok(count),
+            Ok(count) => {
+                self.end = self.end.after(&buf[..count]);
+                self.keep(&buf[..count]);
+                Ok(count)
+            }
             Err(error) => {
                 write_error_line(&self.rt, "standard input", "", error);
                 self.faults = one_more(self.faults);

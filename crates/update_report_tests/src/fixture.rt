@@ -97,6 +97,7 @@ impl Kept {
             Found::Conf(place, kind) => self.conf.push(ConfReport {
                 place: text(alloc, place)?,
                 kind: *kind,
+                origin: None,
             }),
             Found::Absent(dir) => self.dirs.absent.push(text(alloc, dir)?),
             Found::Place(spelled) => self.dirs.places.push(place(alloc, spelled)?),

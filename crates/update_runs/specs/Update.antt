@@ -32,8 +32,8 @@ pub record States : Type 0 where
 abbrev pub states : StoreState → DiskState → SinkState → States
 states store disk sink = record { store = store; disk = disk; sink = sink }
 
--- The updated session is returned after its whole report, or the output has failed after a prefix of it. Without an update there is no
--- report.
+-- The updated session is returned after its whole report, or the output has failed after a prefix of it. Without an update nothing
+-- is reported.
 abbrev pub Reports : Result (Loaded × Report) UpdateFault → Result Loaded UpdatingFault → SinkState → SinkState → Type 0
 Reports (Ok updated) (Ok session) old new = (session ≡ updated.0) × (Relates (IsFollowedBy updated.1.text) old.written new.written × (new.faults ≡ old.faults))
 Reports (Ok updated) (Err OutputFault) old new = Relates (IsFollowedByPart updated.1.text) old.written new.written × HasRisen old.faults new.faults

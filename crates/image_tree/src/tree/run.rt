@@ -26,7 +26,7 @@ const ROOM: usize = 16;
 const PATH_LEN: usize = 48;
 
 // The maximum total length of the paths of a run. If the text is longer, it is rebuilt from the paths of the entries.
-const TEXT_MAX: usize = RUN_MAX * PATH_MAX;
+const RUN_TEXT_MAX: usize = RUN_MAX * PATH_MAX;
 
 /// A run of entries. In contracts it is the list of its entries. Their paths are parts of one text. So a path takes the memory of its bytes
 /// and of two offsets. The path of a removed entry stays in the text.
@@ -157,7 +157,7 @@ impl Run {
     fn keep_short(&mut self, alloc: Global) -> Result<(), NoMemory>
         ensures { self.new ≡ self.old }
     {
-        if self.text.len() > TEXT_MAX {
+        if self.text.len() > RUN_TEXT_MAX {
             let paths = Paths::of(alloc, self.rows())?;
             self.settle(paths);
         }

@@ -17,4 +17,4 @@ returns c =
     let many = ap length c.requires.numbers ∙ length-map names (number_of s.texts) in
     rw (c.in_ok-extend_from_slice-2.ensures.items, c.in_ok-put_offsets.ensures, c.in_ok-put_directory.ensures, c.in_ok-put_zeros.ensures, c.in_ok-extend_from_slice.ensures.items, c.in_ok-put_entries.ensures, c.in_ok-put_header.ensures)
     (parts_joined s names (map (λ e. e.entry.now) c.args.entries.now) c.in_ok-out.out.items _ c.bytes-bytes.result.now _ (length c.args.entries.now) (length c.args.numbers.now) _ _ _
-    c.in_ok-out.ensures.items (count_entries c.args.entries.now) many (entries_are s names c.args.entries.now) c.bytes-bytes.ensures (offsets_of s names c.args.numbers.now c.requires.numbers) refl refl refl)
+    c.in_ok-out.ensures.items (count_entries c.args.entries.now) many (entries_are s names c.args.entries.now) c.bytes-bytes.ensures (offsets_of s names c.args.numbers.now c.requires.among c.requires.numbers) refl refl refl)

@@ -1,7 +1,7 @@
 -- The strings fit, and the parts are the parts of the entries' cache.
 use Rattle.std.proofs.Common.{map, None, ◌≡◌, length, ap, ◌∙◌, arith}
 use Rattle.std.proofs.lemmas.Result.{IfOk-weaker}
-use Rattle.string_pool.specs.InOrder.{table_of}
+use Rattle.string_pool.specs.SharedEnds.{shared_table}
 use Rattle.cache_reader.specs.Cache.{defect, read}
 use Rattle.cache_writer.specs.CacheText.{hwcaps_names, cache_text}
 use Rattle.cache_writer.specs.Joined.{joined}
@@ -10,7 +10,7 @@ use Rattle.cache_writer.proofs.Accepted.{accepted}
 use Rattle.cache_writer.proofs.Adding.{few_own}
 use Rattle.cache_writer.proofs.Bounds.{few_names}
 use Rattle.cache_writer.proofs.Joining.{whole, count_entries}
-use Rattle.cache_writer.proofs.Laying.{few_caps, gathered, small, kept, laid_out}
+use Rattle.cache_writer.proofs.Laying.{few_caps, fits, gathered, small, kept, laid_out}
 use Rattle.cache_writer.proofs.ReadBack.{all_read, all_plain}
 use Rattle.cache_writer.proofs.writer.write.Goals as goal
 
@@ -21,8 +21,8 @@ number_names-requires c =
     let own = ap length c.in_ok-numbered.ensures.texts in
     omega (arith, names, own, few_names es, few_own es, ap length c.as_slice-entries.ensures, c.requires.few)
 
-pub of-requires-2 : goal.of-requires-2
-of-requires-2 c =
+pub seal-requires : goal.seal-requires
+seal-requires c =
     let es = c.as_slice-entries.result.now in
     let fits = small es c.args.entries.now c.in_ok-names.names c.number_entries.new.texts c.number_names.new.texts c.in_ok-numbered.numbered.items c.as_slice-entries.ensures c.requires.few c.requires.sonames c.requires.caps c.requires.paths c.in_ok-names.ensures c.in_ok-numbered.ensures.texts c.in_ok-numbers.ensures.texts in
     omega (arith, fits, ap length c.as_slice-entries.ensures, c.requires.few)
@@ -41,21 +41,21 @@ join-requires-clause-names c =
 pub join-requires-clause-strings : goal.join-requires-clause-strings
 join-requires-clause-strings c =
     let es = c.as_slice-entries.result.now in
-    let fits = small es c.args.entries.now c.in_ok-names.names c.number_entries.new.texts c.number_names.new.texts c.in_ok-numbered.numbered.items c.as_slice-entries.ensures c.requires.few c.requires.sonames c.requires.caps c.requires.paths c.in_ok-names.ensures c.in_ok-numbered.ensures.texts c.in_ok-numbers.ensures.texts in
-    let texts = ap (λ s. length (table_of s.texts)) c.in_ok-strings.ensures in
-    omega (arith, fits, texts)
+    let fit = fits es c.args.entries.now c.in_ok-names.names c.number_entries.new.texts c.number_names.new.texts c.in_ok-numbered.numbered.items c.as_slice-entries.ensures c.requires.few c.requires.sonames c.requires.caps c.requires.paths c.in_ok-names.ensures c.in_ok-numbered.ensures.texts c.in_ok-numbers.ensures.texts in
+    let texts = ap (λ s. length (shared_table s.texts)) c.in_ok-sealed.ensures in
+    omega (arith, fit, texts)
 
 pub join-requires-clause-own : goal.join-requires-clause-own
 join-requires-clause-own c =
     let es = c.as_slice-entries.result.now in
-    rw (c.in_ok-strings.ensures, c.deref.ensures.value) (kept es c.args.entries.now c.in_ok-names.names c.number_entries.new.texts c.number_names.new.texts c.in_ok-numbered.numbered.items c.as_slice-entries.ensures c.requires.few c.requires.sonames c.requires.caps c.requires.paths c.in_ok-names.ensures c.in_ok-numbered.ensures.texts c.in_ok-numbers.ensures.texts c.in_ok-numbered.ensures.numbers)
+    rw (c.in_ok-sealed.ensures, c.deref.ensures.value) (kept es c.args.entries.now c.in_ok-names.names c.number_entries.new.texts c.number_names.new.texts c.in_ok-numbered.numbered.items c.as_slice-entries.ensures c.requires.few c.requires.sonames c.requires.caps c.requires.paths c.in_ok-names.ensures c.in_ok-numbered.ensures.texts c.in_ok-numbers.ensures.texts c.in_ok-numbered.ensures.numbers)
 
 pub returns-clause-bytes : goal.returns-clause-bytes
 returns-clause-bytes c =
     let es = c.as_slice-entries.result.now in
     let texts = gathered es c.args.entries.now c.in_ok-names.names c.number_entries.new.texts c.number_names.new.texts c.in_ok-numbered.numbered.items c.as_slice-entries.ensures c.requires.few c.requires.sonames c.requires.caps c.requires.paths c.in_ok-names.ensures c.in_ok-numbered.ensures.texts c.in_ok-numbers.ensures.texts in
-    let e : joined c.in_ok-strings.strings c.in_ok-names.names (map (λ n. n.entry.now) c.deref.result.now) ≡ cache_text c.args.entries.now =
-    rw c.deref.ensures.value (whole c.in_ok-strings.strings c.number_names.new.texts c.in_ok-names.names es c.in_ok-numbered.numbered.items c.in_ok-strings.ensures texts c.in_ok-names.ensures c.in_ok-numbered.ensures.entries)
+    let e : joined c.in_ok-sealed.sealed c.in_ok-names.names (map (λ n. n.entry.now) c.deref.result.now) ≡ cache_text c.args.entries.now =
+    rw c.deref.ensures.value (whole c.in_ok-sealed.sealed c.number_names.new.texts c.in_ok-names.names es c.in_ok-numbered.numbered.items c.in_ok-sealed.ensures texts c.in_ok-names.ensures c.in_ok-numbered.ensures.entries)
     ∙ ap cache_text c.as_slice-entries.ensures in
     rw (← e) c.join.ensures
 

@@ -1,4 +1,4 @@
-use Rattle.std.proofs.Common.{◌≡◌, Ok, Err, sym, ap, subst, rules}
+use Rattle.std.proofs.Common.{refl, ◌≡◌, Ok, Err, sym, ap, subst, rules}
 use Rattle.tree_face.specs.Known.{IfKnown}
 use Rattle.elf_headers.specs.Layout.{word_size}
 use Rattle.lib_types.specs.Ranges.{IsInRange}
@@ -115,6 +115,6 @@ returns-in-Err-name-clause-fault g c =
           (known_bad_name keep (known_content s) w d c.args.values t.values table new t.some c.in-Err-name.ensures.bad_name c.in-Ok.ensures.found.bytes
           (flagged keep (known_content s) w d table first c.args.values new c.requires.first
           (before (λ bytes. kept_of keep (gathered (table bytes) first (dynamic_entries w bytes d)) ≡ Ok (kept keep new)) s mid c.in-Ok.ensures.reads.reads gathers)));
-      range = subst IsInRange (sym c.in-Err-name.ensures.bad) tt;
+      range = subst IsInRange (sym c.in-Err-name.ensures.bad) refl;
       no_memory = λ none. absurd (cc);
     }

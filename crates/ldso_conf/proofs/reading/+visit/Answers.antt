@@ -7,6 +7,7 @@ use Rattle.ldso_conf.specs.Reading.{asked, begun, included, place_in, steps_in}
 use Rattle.ldso_conf.specs.Visits.{Progress}
 use Rattle.ldso_conf.specs.Endings.{read_ending, read_ending_by}
 use Rattle.ldso_conf.specs.declared.steps.Step.TheVariants as step
+use Rattle.ldso_conf.proofs.Looking.{alone_looked, dir_looked, file_looked, report_looked, step_looked}
 use Rattle.ldso_conf.proofs.Uses.{all_done, any_on, dir_taken, file_any, file_done, file_stops, items_stop, partial, report_taken, step_done, stops_here}
 use Rattle.ldso_conf.proofs.Visiting.{by_file, dir_files, file_taken, steps_left}
 use Rattle.ldso_conf.proofs.reading.+visit.Goals as goal
@@ -47,9 +48,15 @@ loop-step-init g t c =
           (steps_left tree c.args.left c.args.reader.now file c.args.file.key c.key_to_begin.new.reader key b now steps known (c.in_ok-step-items.ensures.loads knows))
           (file_taken tree c.args.left c.args.reader.now file c.args.file.key c.key_to_begin.new.reader key b now steps known (c.in_ok-step-items.ensures.loads knows))
           c.in_ok-step-items.ensures.reads);
+      looks = λ knows. rw gives.0 (file_looked tree known (λ held. included tree held c.args.left c.args.reader.now.read c.args.file)
+          (λ held. asked (included tree held (c.args.left - 1)) now.read steps) (λ held. begun file key (held key))
+          (g.V.TreeView.state c.args.view.now) (g.V.TreeView.state c.load.new.view)
+          (steps_left tree c.args.left c.args.reader.now file c.args.file.key c.key_to_begin.new.reader key b now steps known (c.in_ok-step-items.ensures.loads knows))
+          (c.in_ok-step-items.ensures.looks knows));
       any = file_any known (g.S.Store.state c.args.store.now) (g.S.Store.state c.load.new.store) key c.in_ok-step-items.ensures.reads;
       knows = c.in_ok-step-items.ensures.knows;
       view = c.load.ensures.view;
+      since = c.in_ok-step-items.ensures.since;
       held = c.load.ensures.reads.held;
       files = omega (arith, one, same);
       begun = omega (arith, one, same, begins);
@@ -70,9 +77,15 @@ loop-step-preserved-in-Continue-branch-4 g t c =
       done = λ knows. step_done (λ held. included tree held c.args.left c.args.reader.now.read c.args.file) (λ held. included tree held (c.args.left - 1))
           (step.Directory c.in-Directory.dir c.in-Directory.origin) c.next.new.self.rest.items c.args.reader.now c.loop-step.reader c.add_dir.new.self start here here known
           (rw (c.in-Some-step.ensures.steps.0, c.in-Directory.is) at (c.loop-step.invariant.done knows)) parts.0 parts.1;
+      looks = λ knows. step_looked tree known (λ held. included tree held c.args.left c.args.reader.now.read c.args.file) (λ held. included tree held (c.args.left - 1))
+          (step.Directory c.in-Directory.dir c.in-Directory.origin) c.next.new.self.rest.items c.loop-step.reader c.add_dir.new.self
+          (g.V.TreeView.state c.args.view.now) (g.V.TreeView.state c.loop-step.view) (g.V.TreeView.state c.loop-step.view)
+          (rw (c.in-Some-step.ensures.steps.0, c.in-Directory.is) at (c.loop-step.invariant.looks knows)) c.loop-step.invariant.view parts.0
+          (dir_looked tree known c.in-Directory.dir c.in-Directory.origin (g.V.TreeView.state c.loop-step.view));
       any = c.loop-step.invariant.any;
       knows = c.loop-step.invariant.knows;
       view = c.loop-step.invariant.view;
+      since = c.loop-step.invariant.since;
       held = c.loop-step.invariant.held;
       files = omega (arith, files, same);
       begun = omega (arith, same, begins);
@@ -102,9 +115,15 @@ loop-step-preserved-in-Continue-branch-5 g t c =
       done = λ knows. step_done (λ held. included tree held c.args.left c.args.reader.now.read c.args.file) (λ held. included tree held (c.args.left - 1))
           (step.Report c.in-Report.report) c.next.new.self.rest.items c.args.reader.now c.loop-step.reader c.add_report.new.self start here here known
           (rw (c.in-Some-step.ensures.steps.0, c.in-Report.is) at (c.loop-step.invariant.done knows)) parts.0 parts.1;
+      looks = λ knows. step_looked tree known (λ held. included tree held c.args.left c.args.reader.now.read c.args.file) (λ held. included tree held (c.args.left - 1))
+          (step.Report c.in-Report.report) c.next.new.self.rest.items c.loop-step.reader c.add_report.new.self
+          (g.V.TreeView.state c.args.view.now) (g.V.TreeView.state c.loop-step.view) (g.V.TreeView.state c.loop-step.view)
+          (rw (c.in-Some-step.ensures.steps.0, c.in-Report.is) at (c.loop-step.invariant.looks knows)) c.loop-step.invariant.view parts.0
+          (report_looked tree known c.in-Report.report (g.V.TreeView.state c.loop-step.view));
       any = c.loop-step.invariant.any;
       knows = c.loop-step.invariant.knows;
       view = c.loop-step.invariant.view;
+      since = c.loop-step.invariant.since;
       held = c.loop-step.invariant.held;
       files = omega (arith, files, same);
       begun = omega (arith, same, begins);
@@ -139,8 +158,17 @@ loop-step-preserved g t c =
           (rw (c.in-Some-step.ensures.steps.0, c.in-Include.is) at (c.loop-step.invariant.done knows))
           (rw (c.loop-step.invariant.held, c.loop-step.invariant.view.tree) at (c.in_ok-visit-in-Include.ensures.visits known_here))
           (rw (c.loop-step.invariant.held, c.loop-step.invariant.view.tree) at (c.in_ok-visit-in-Include.ensures.reads known_here));
+      looks = λ knows.
+          let known_here = c.loop-step.invariant.knows knows in
+          step_looked tree known (λ held. included tree held c.args.left c.args.reader.now.read c.args.file) (λ held. included tree held (c.args.left - 1))
+          (step.Include c.in-Include.file) c.next.new.self.rest.items c.loop-step.reader c.visit.new.reader
+          (g.V.TreeView.state c.args.view.now) (g.V.TreeView.state c.loop-step.view) (g.V.TreeView.state c.visit.new.view)
+          (rw (c.in-Some-step.ensures.steps.0, c.in-Include.is) at (c.loop-step.invariant.looks knows)) c.loop-step.invariant.view
+          (rw (c.loop-step.invariant.held, c.loop-step.invariant.view.tree) at (c.in_ok-visit-in-Include.ensures.visits known_here))
+          (rw (c.loop-step.invariant.held, c.loop-step.invariant.view.tree) at (c.in_ok-visit-in-Include.ensures.looks known_here));
       any = any_on known start here next c.loop-step.invariant.any (rw c.loop-step.invariant.held at c.in_ok-visit-in-Include.ensures.any);
       knows = λ knows. c.in_ok-visit-in-Include.ensures.knows (c.loop-step.invariant.knows knows);
+      since = λ start h. c.in_ok-visit-in-Include.ensures.since start (c.loop-step.invariant.since start h);
       view = record { tree = c.visit.ensures.view.tree ∙ c.loop-step.invariant.view.tree; whole = c.visit.ensures.view.whole ∙ c.loop-step.invariant.view.whole };
       held = c.visit.ensures.any.held ∙ c.loop-step.invariant.held;
       files = omega (arith, files, more);
@@ -175,3 +203,15 @@ returns-clause-visits g t c =
     let tree = (g.V.TreeView.state c.args.view.now).tree in
     λ knows. (all_done (λ held. included tree held c.args.left c.args.reader.now.read c.args.file) (g.S.Store.state c.args.store.now).held c.args.reader.now
     c.loop-step.reader (g.S.Store.state c.args.store.now) (g.S.Store.state c.loop-step.store) (rw none at (c.loop-step.invariant.done knows))).0
+
+pub returns-clause-looks : goal.returns-clause-looks
+returns-clause-looks g t c =
+    let none : c.loop-step.step-iterator.rest.items ≡ [] = grind (arith, common_steps) in
+    λ knows. rw none at (c.loop-step.invariant.looks knows)
+
+pub returns-in_default-clause-looks : goal.returns-in_default-clause-looks
+returns-in_default-clause-looks g t c =
+    let b = rw c.in_default.is at c.in_ok-key.ensures.visits in
+    let tree = (g.V.TreeView.state c.args.view.now).tree in
+    λ knows. alone_looked tree (g.S.Store.state c.args.store.now).held (λ held. included tree held c.args.left c.args.reader.now.read c.args.file) b.report
+    (g.V.TreeView.state c.args.view.now) (λ held. b.alone tree held)

@@ -13,8 +13,8 @@ use Rattle.elf_dynamic.proofs.entries.Entries.next.Goals as goal
 pub returns-then-not-branch-clause-entry : goal.returns-then-not-branch-clause-entry
 returns-then-not-branch-clause-entry g c = ended _ c.args.self.now (c.in_ok-hold.ensures.next.none (grind (arith, c.if-not-branch.true)))
 
-pub returns-then-entry-eq0-clause-entry : goal.returns-then-entry-eq0-clause-entry
-returns-then-entry-eq0-clause-entry g c =
+pub returns-then-entry-eq-DT_NULL-clause-entry : goal.returns-then-entry-eq-DT_NULL-clause-entry
+returns-then-entry-eq-DT_NULL-clause-entry g c =
     let n = c.hold.new.self in
     let w = c.hold.new.file.cursor.section in
     let h = c.in_ok-hold.ensures in
@@ -23,7 +23,7 @@ returns-then-entry-eq0-clause-entry g c =
     let long : 2 * word_size n.wide ≤ n.left = omega (arith, there, held.held) in
     let enough : 2 * word_size n.wide ≤ ready w (n.end - n.left) = omega (arith, there, held.ready) in
     subst (λ (x : Entries). IfKnown (known_content (g.S.Store.state c.args.file.now.store.now)) (λ bytes. rest_of x bytes ≡ [])) h.next.same
-    (ended_at _ n (ready w (n.end - n.left)) c.from.result.now c.entry-entry.result long enough c.entry-entry.ensures c.if-entry-eq0.true
+    (ended_at _ n (ready w (n.end - n.left)) c.from.result.now c.entry-entry.result long enough c.entry-entry.ensures c.if-entry-eq-DT_NULL.true
     (next_part _ _ c.hold.new.file.cursor.head w (n.end - n.left) c.from.result.now h.reads.reads h.reads.cursor.section (c.from.ensures.part ∙ ap (part w) c.at.ensures)))
 
 pub returns-clause-entry : goal.returns-clause-entry
@@ -36,7 +36,7 @@ returns-clause-entry g c =
     let long : 2 * word_size n.wide ≤ n.left = omega (arith, there, held.held) in
     let enough : 2 * word_size n.wide ≤ ready w (n.end - n.left) = omega (arith, there, held.ready) in
     let within : n.left ≤ n.end = subst (λ (x : Entries). x.left ≤ x.end) (sym h.next.same) c.requires.reader.within in
-    let live : (c.entry-entry.result.tag == 0) ≡ false = grind (arith, nat_tests, c.if-entry-eq0.false) in
+    let live : (c.entry-entry.result.tag == 0) ≡ false = grind (arith, nat_tests, c.if-entry-eq-DT_NULL.false) in
     let each = c.entry_length-each.result in
     let new : Entries = record { wide = n.wide; end = n.end; left = n.left - each; held = n.held - each } in
     subst (λ (x : Entries). IfKnown (known_content (g.S.Store.state c.args.file.now.store.now)) (λ bytes. rest_of x bytes ≡ c.entry-entry.result ∷ rest_of new bytes)) h.next.same

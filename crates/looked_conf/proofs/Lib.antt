@@ -1,0 +1,3 @@
+mod Conf
+mod Known
+mod Texts

@@ -1,0 +1,3 @@
+pub mod Conf
+pub mod Patterns
+pub mod View

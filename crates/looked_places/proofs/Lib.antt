@@ -1,0 +1,3 @@
+pub mod LibraryNames
+pub mod SearchDirs
+pub mod Sonames

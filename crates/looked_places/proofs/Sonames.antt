@@ -1,0 +1,91 @@
+-- If those of some names that are in a directory were looked up, so was each of these names: the others have no node.
+use Rattle.std.proofs.Common.{◌≡◌, ℕ, Bool, true, false, not, ◌&&◌, ◌||◌, ◌==◌, List, [], ◌∷◌, filter, length, map, refl, ap, sym, ◌∙◌, Option, Some, None}
+use Rattle.std.proofs.Math.Bool.{or-true}
+use Rattle.std.proofs.lemmas.Bool.{and_from, and_parts, false≢true}
+use Rattle.std.proofs.lemmas.Bool.Decides.{Decides-eqb}
+use Rattle.std.proofs.lemmas.List.{drop_at}
+use Rattle.std.proofs.lemmas.Slice.Eq.{bytes_eq-Decides, starts_is}
+use Rattle.std.specs.List.{dedup, list_all, list_any}
+use Rattle.std.specs.Str.{bytes_eq}
+use Rattle.image_tree.proofs.Above.{found_any}
+use Rattle.image_tree.proofs.Rising.{first_name, name_goes_on}
+use Rattle.image_tree.specs.Paths.{folder, is_below, join, name_after}
+use Rattle.image_tree.specs.Tree.{Nodes, children_of, kind_at, names_below, node_at, of_dir}
+use Rattle.image_tree.specs.declared.node.Node.{Node}
+use Rattle.image_tree.specs.declared.tree.Kind.TheVariants as kinds
+use Rattle.lib_types.proofs.Bools.{not_true}
+use Rattle.lib_types.proofs.SortedPairs.{by_test}
+use Rattle.lib_types.specs.Name.{have_no_slash, is_name, slash}
+use Rattle.string_pool.proofs.Members.{dedup_in, is_in, kept_in, itself}
+use Rattle.seen_tree.specs.Part.{AreSeen, IsPart, IsSeen, listed}
+use Rattle.seen_places.proofs.Each.{seen_at}
+use Rattle.looked_places.specs.Listed.{is_among}
+
+first_alone : (name : List ℕ) → have_no_slash name ≡ true → first_name name ≡ name
+first_alone [] h = refl
+first_alone (b ∷ name) h =
+    let parts = and_parts (not (b == slash) && not (b == 0)) (have_no_slash name) h in
+    name_goes_on b name (not_true (b == slash) (and_parts _ _ parts.0).0) ∙ ap (λ z. b ∷ z) (first_alone name parts.1)
+
+module _ (t : Nodes) (d : List ℕ) (dir : kind_at t d ≡ kinds.Dir) (z : List ℕ) (named : is_name z ≡ true) where
+  -- the path continues from the directory by the name
+  abbrev goes_by : List ℕ → Bool
+  goes_by p = is_below d p && bytes_eq z (name_after (length (folder d)) p)
+
+  in_below : (nodes : Nodes) → is_in (names_below nodes d) z ≡ list_any (λ e. goes_by e.0) nodes
+  in_below [] = refl
+  in_below (e ∷ nodes) = by_test (is_below d e.0)
+      (λ b. rw b (ap (λ c. bytes_eq z (name_after (length (folder d)) e.0) || c) (in_below nodes)))
+      (λ b. rw b (in_below nodes))
+
+  goes_itself : goes_by (join d z) ≡ true
+  goes_itself =
+      let flat : have_no_slash z ≡ true = (and_parts _ _ (and_parts _ _ named).0).1 in
+      let name : z ≡ name_after (length (folder d)) (join d z) = sym (ap first_name (drop_at (folder d) z (length (folder d)) refl) ∙ first_alone z flat) in
+      and_from _ _ ((starts_is Decides-eqb (join d z) (folder d) (is_below d (join d z)) refl).1 z refl) ((bytes_eq-Decides z _).1 name)
+
+  -- a name with a node is in the directory
+  child_of_node : (n : Node) → node_at t (join d z) ≡ Some n → is_in (children_of t d) z ≡ true
+  child_of_node n e =
+      ap (λ kind. is_in (of_dir kind (dedup bytes_eq (names_below t d))) z) dir ∙ dedup_in (bytes_eq z) (names_below t d) ∙ in_below t
+      ∙ found_any (λ (f : List ℕ × Node). goes_by f.0) t (join d z) n e goes_itself
+
+  no_node : is_in (children_of t d) z ≡ false → node_at t (join d z) ≡ None
+  no_node none = by (node_at t (join d z)) refl
+    where
+      by : (o : Option Node) → node_at t (join d z) ≡ o → o ≡ None
+      by None e = refl
+      by (Some n) e = absurd (false≢true (sym none ∙ child_of_node n e))
+
+module _ (t part : Nodes) (is : IsPart t part) (d : List ℕ) (dir : kind_at t d ≡ kinds.Dir) (sonames : List (List ℕ))
+    (all : AreSeen t part (listed (is_among sonames) t d)) where
+  both_none : (q : List ℕ) (o : Option Node) → node_at part q ≡ o → node_at t q ≡ None → o ≡ None
+  both_none q None e none = refl
+  both_none q (Some n) e none = let z : Some n ≡ None = sym (is.nodes q n e) ∙ none in absurd (cc)
+
+  soname_looked : (soname : List ℕ) → is_name soname ≡ true → is_among sonames soname ≡ true → IsSeen t part (join d soname)
+  soname_looked soname named among = by_test (is_in (children_of t d) soname)
+      (λ e. seen_at t part d soname (filter (is_among sonames) (children_of t d)) all.1 (kept_in (is_among sonames) soname (children_of t d) ∙ and_from _ _ among e))
+      (λ e.
+      let none : node_at t (join d soname) ≡ None = no_node t d dir soname named e in
+      both_none (join d soname) (node_at part (join d soname)) refl none ∙ sym none)
+
+-- each of the names was seen
+pub sonames_seen : (t part : Nodes) → IsPart t part → (d : List ℕ) → kind_at t d ≡ kinds.Dir → (sonames : List (List ℕ)) → AreSeen t part (listed (is_among sonames) t d)
+    → list_all is_name sonames ≡ true → AreSeen t part (map (join d) sonames)
+sonames_seen t part is d dir sonames all named = for_all sonames (λ soname among. soname_looked t part is d dir sonames all soname (of_named sonames soname named among) among)
+  where
+    of_named : (names : List (List ℕ)) (z : List ℕ) → list_all is_name names ≡ true → is_in names z ≡ true → is_name z ≡ true
+    of_named [] z named h = absurd (cc)
+    of_named (name ∷ names) z named h =
+        let parts = and_parts (is_name name) (list_all is_name names) named in
+        by_test (bytes_eq z name)
+        (λ e. ap is_name ((bytes_eq-Decides z name).0 e) ∙ parts.0)
+        (λ e. of_named names z parts.1 (sym (ap (λ b. b || is_in names z) e) ∙ h))
+
+    for_all : (names : List (List ℕ)) → ((z : List ℕ) → is_in names z ≡ true → IsSeen t part (join d z)) → AreSeen t part (map (join d) names)
+    for_all [] each = tt
+    for_all (name ∷ names) each = (
+      each name (ap (λ b. b || is_in names name) (itself name)),
+      for_all names (λ z h. each z (ap (λ b. bytes_eq z name || b) h ∙ or-true (bytes_eq z name))),
+    )

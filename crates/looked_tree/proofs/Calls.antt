@@ -1,0 +1,89 @@
+-- The calls of readings in sequence.
+use Rattle.std.proofs.Common.{◌≡◌, ◌+◌, ℕ, List, [], ◌++◌, append_assoc, append-nil, length, length-append, refl, ap, sym, ◌∙◌, Option, Some, None, Ok, arith}
+use Rattle.std.proofs.lemmas.List.Elements.{filter_map-append}
+use Rattle.lib_types.specs.Counts.{raised}
+use Rattle.root_folder.specs.Folder.{FolderState, HasNoFault, KeepsFolder}
+use Rattle.root_folder.specs.declared.folder.FolderCall.{FolderCall}
+use Rattle.root_folder.specs.declared.folder.FolderCounts.{FolderCounts}
+use Rattle.root_tree.specs.ReadTree.{HasRead, KeepsMade, ReadsOn}
+use Rattle.tree_face.proofs.Follows.{follow}
+use Rattle.tree_face.proofs.Known.{relates_on}
+use Rattle.tree_face.specs.Follows.{IsFollowedBy}
+use Rattle.tree_face.specs.Known.{Relates}
+use Rattle.seen_tree.specs.Seen.{ListsMore, LooksMore, Makes, dir_of, dirs_of, path_of, paths_of}
+
+-- ---- calls
+
+pub raised_none : (c : ℕ) → c ≡ raised c 0
+raised_none c = omega arith
+
+raised_on : (c a b : ℕ) → raised (raised c a) b ≡ raised c (a + b)
+raised_on c a b = omega arith
+
+none_follows : (a : Option (List FolderCall)) → Relates (IsFollowedBy []) a a
+none_follows None = tt
+none_follows (Some a) = sym (append-nil a)
+
+no_calls : (s : FolderState) → Makes [] s s
+no_calls s = record { calls = none_follows s.calls; looks = raised_none s.counts.looks; lists = raised_none s.counts.lists }
+
+makes_on : (xs ys : List FolderCall) (a b c : FolderState) → Makes xs a b → Makes ys b c → Makes (xs ++ ys) a c
+makes_on xs ys a b c first next = record {
+  calls = relates_on (IsFollowedBy xs) (IsFollowedBy ys) (IsFollowedBy (xs ++ ys)) (λ a b c. follow xs ys a b c) a.calls b.calls c.calls first.calls next.calls;
+  looks =
+      let size : length (paths_of (xs ++ ys)) ≡ length (paths_of xs) + length (paths_of ys) = ap length (filter_map-append path_of xs ys) ∙ length-append (paths_of xs) (paths_of ys) in
+      next.looks ∙ ap (λ n. raised n (length (paths_of ys))) first.looks ∙ raised_on a.counts.looks (length (paths_of xs)) (length (paths_of ys)) ∙ ap (raised a.counts.looks) (sym size);
+  lists =
+      let size : length (dirs_of (xs ++ ys)) ≡ length (dirs_of xs) + length (dirs_of ys) = ap length (filter_map-append dir_of xs ys) ∙ length-append (dirs_of xs) (dirs_of ys) in
+      next.lists ∙ ap (λ n. raised n (length (dirs_of ys))) first.lists ∙ raised_on a.counts.lists (length (dirs_of xs)) (length (dirs_of ys)) ∙ ap (raised a.counts.lists) (sym size);
+}
+
+pub no_lists : (looked dirs : List (List ℕ)) (s : FolderState) → ListsMore looked looked dirs dirs s s
+no_lists looked dirs s = record { made = []; looked = sym (append-nil looked); listed = sym (append-nil dirs); calls = no_calls s }
+
+added_on : {X : Type 0} (a b c xs ys : List X) → b ≡ a ++ xs → c ≡ b ++ ys → c ≡ a ++ (xs ++ ys)
+added_on a b c xs ys first next = next ∙ ap (λ l. l ++ ys) first ∙ append_assoc a xs ys
+
+pub lists_on : (x y z : List (List ℕ)) (k l m : List (List ℕ)) (a b c : FolderState) → ListsMore x y k l a b → ListsMore y z l m b c → ListsMore x z k m a c
+lists_on x y z k l m a b c first next = record {
+  made = first.made ++ next.made;
+  looked = added_on x y z (paths_of first.made) (paths_of next.made) first.looked next.looked ∙ ap (λ l. x ++ l) (sym (filter_map-append path_of first.made next.made));
+  listed = added_on k l m (dirs_of first.made) (dirs_of next.made) first.listed next.listed ∙ ap (λ d. k ++ d) (sym (filter_map-append dir_of first.made next.made));
+  calls = makes_on first.made next.made a b c first.calls next.calls;
+}
+
+pub lists_none : (x y dirs : List (List ℕ)) (a b : FolderState) → LooksMore x y a b → ListsMore x y dirs dirs a b
+lists_none x y dirs a b looks = record {
+  made = looks.made;
+  looked = looks.looked;
+  listed = sym (append-nil dirs) ∙ ap (λ d. dirs ++ d) (sym looks.listed);
+  calls = looks.calls;
+}
+
+-- ---- readings in sequence
+
+keeps_on : (a b c : FolderState) → KeepsFolder a b → KeepsFolder b c → KeepsFolder a c
+keeps_on a b c first next = record { contents = next.contents ∙ first.contents; time = next.time ∙ first.time; may = next.may ∙ first.may; since = next.since ∙ first.since }
+
+made_on : (a b c : FolderCounts) → KeepsMade a b → KeepsMade b c → KeepsMade a c
+made_on a b c first next = record { links = next.links ∙ first.links; settles = next.settles ∙ first.settles }
+
+no_fault_on : (a b c : FolderState) → HasNoFault a b → HasNoFault b c → HasNoFault a c
+no_fault_on a b c first next = record { faults = next.faults ∙ first.faults; read_faults = next.read_faults ∙ first.read_faults }
+
+pub read_on : (a b c : FolderState) → HasRead a b → HasRead b c → HasRead a c
+read_on a b c first next = record {
+  keeps = keeps_on a b c first.keeps next.keeps;
+  made = made_on a.counts b.counts c.counts first.made next.made;
+  no_fault = no_fault_on a b c first.no_fault next.no_fault;
+}
+
+pub no_reading : (s : FolderState) → HasRead s s
+no_reading s = record {
+  keeps = record { contents = refl; time = refl; may = refl; since = refl };
+  made = record { links = refl; settles = refl };
+  no_fault = record { faults = refl; read_faults = refl };
+}
+
+pub read_ok : {A : Type 0} (x : A) (a b : FolderState) → ReadsOn {A = A} (Ok x) a b → HasRead a b
+read_ok x a b reads = record { keeps = reads.keeps; made = reads.made; no_fault = reads.done }

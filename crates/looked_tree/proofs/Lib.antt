@@ -1,0 +1,4 @@
+mod Calls
+mod Halts
+mod Lists
+pub mod Loads

@@ -1,0 +1,156 @@
+//! What a trial does with the calls of a device.
+ghost use Rattle.std.specs.Prelude.{◌≤◌, IfOk};
+
+use std::cell::Cell;
+use std::io::{self, Error, ErrorKind};
+
+/// How bytes are moved.
+#[derive(Clone, Copy, Debug, PartialEq, Eq)]
+pub struct Manner {
+    /// Each call moves at most one byte.
+    pub is_short: bool,
+    /// A signal interrupts every second call.
+    pub is_interrupted: bool,
+}
+
+impl Manner {
+    /// Each call moves as many bytes as it can.
+    pub const WHOLE: Manner = Manner {
+        is_short: false,
+        is_interrupted: false,
+    };
+
+    /// The manner of this number: its two lowest bits.
+    pub fn of(number: u64) -> Manner {
+        Manner {
+            is_short: number & 1 != 0,
+            is_interrupted: number & 2 != 0,
+        }
+    }
+}
+
+/// A kind of system call.
+#[derive(Clone, Copy, Debug, PartialEq, Eq)]
+pub enum SystemCall {
+    /// Opens a file or a directory.
+    Open,
+    /// Asks what is at a path or what is open.
+    Look,
+    /// Reads a file, a directory or a stream, or moves in it.
+    Read,
+    Write,
+    Sync,
+    Rename,
+    Remove,
+    /// Makes a directory or a link.
+    Make,
+    /// Changes a mode, a length or a time.
+    Change,
+    /// Gives a file to another user.
+    Give,
+    Lock,
+}
+
+/// What a trial does with the calls of a device, and what it has seen of them. All copies of a runtime share it.
+#[derive(Drop)]
+pub struct Plan {
+    manner: Cell<Manner>,
+    // Whether the next moving call is interrupted, if calls are.
+    is_due: Cell<bool>,
+    // The number of calls that pass before the one that fails. None if no call fails.
+    left: Cell<Option<u64>>,
+    failed: Cell<Option<SystemCall>>,
+    // The number of lines on the error output.
+    lines: Cell<u64>,
+    // Whether the standard output counts as a terminal.
+    is_terminal: Cell<bool>,
+}
+
+// EIO, which no device handles in a special way.
+const IO_ERROR: i32 = 5;
+
+impl Plan {
+    /// A plan by which all calls succeed.
+    pub fn new() -> Plan {
+        Plan {
+            manner: Cell::new(Manner::WHOLE),
+            is_due: Cell::new(false),
+            left: Cell::new(None),
+            failed: Cell::new(None),
+            lines: Cell::new(0),
+            is_terminal: Cell::new(false),
+        }
+    }
+
+    /// From here on, bytes are moved in this manner.
+    pub fn move_in(&self, manner: Manner) {
+        self.manner.set(manner);
+    }
+
+    /// The call after this number of further calls fails, with EIO. The others succeed.
+    pub fn fail_after(&self, calls: u64) {
+        self.left.set(Some(calls));
+        self.failed.set(None);
+    }
+
+    /// No further call fails. Returns the kind of the call that failed, if it was made.
+    pub fn end_failing(&self) -> Option<SystemCall> {
+        self.left.set(None);
+        self.failed.get()
+    }
+
+    /// From here on, the standard output counts as a terminal or not.
+    pub fn set_terminal(&self, is_terminal: bool) {
+        self.is_terminal.set(is_terminal);
+    }
+
+    /// Whether the standard output counts as a terminal.
+    pub fn is_terminal(&self) -> bool {
+        self.is_terminal.get()
+    }
+
+    /// The number of lines that were written on the error output since this was asked last.
+    pub fn take_lines(&self) -> u64 {
+        let lines = self.lines.get();
+        self.lines.set(0);
+        lines
+    }
+
+    /// Counts a call. It is an error if this is the call that fails.
+    pub fn pass(&self, call: SystemCall) -> io::Result<()> {
+        match self.left.get() {
+            None => Ok(()),
+            Some(0) => {
+                self.left.set(None);
+                self.failed.set(Some(call));
+                Err(Error::from_raw_os_error(IO_ERROR))
+            }
+            Some(left) => {
+                self.left.set(Some(left - 1));
+                Ok(())
+            }
+        }
+    }
+
+    /// Counts a call that moves up to `room` bytes, and returns how many it may move.
+    pub fn pass_moving(&self, call: SystemCall, room: usize) -> io::Result<usize>
+        ensures { IfOk result (λ n. n ≤ room) }
+    {
+        let manner = self.manner.get();
+        if manner.is_interrupted {
+            let due = !self.is_due.get();
+            self.is_due.set(due);
+            if due {
+                return Err(Error::from(ErrorKind::Interrupted));
+            }
+        }
+        self.pass(call)?;
+        Ok(if manner.is_short { room.min(1) } else { room })
+    }
+
+    /// Counts the lines of a text for the error output.
+    pub fn add_lines(&self, text: &[u8]) {
+        let lines = text.iter().filter(|b| **b == b'\n').count() as u64;
+        self.lines.set(self.lines.get().saturating_add(lines));
+    }
+}
