@@ -26,7 +26,7 @@ _ldconfig_image() {
                 print) words='-r' ;;
                 -p) words='-r -C' ;;
                 lookup) words='--abi --caps -r' ;;
-                resolve) words='--caps --library-path --platform --secure -r' ;;
+                resolve) words='--caps --library-path --platform --secure --list -0 -r' ;;
                 esac
             fi
             ;;

@@ -1,9 +1,20 @@
-"""Makes synthetic shared objects: with or without a DT_SONAME and nothing else in them, or with DT_NEEDED entries."""
+"""Makes synthetic shared objects: with or without a DT_SONAME and nothing else in them, or with DT_NEEDED entries. `LIBRARY` is one in a file."""
 
 import struct
+from pathlib import Path
 
 import tool_modules  # noqa: F401
 from image_facts import ABIS, DT_NEEDED, DT_NULL, DT_RPATH, DT_SONAME, DT_STRSZ, DT_STRTAB, ET_DYN, PT_DYNAMIC, PT_LOAD
+
+# A library of x86-64 with the soname libz.so.1, byte for byte as docs/FORMATS.md says of synthetic files.
+LIBRARY = Path(__file__).resolve().parent.parent / "crates/ldconfig/data/usr/lib/libz.so.1"
+
+
+def nameless_library():
+    """That library without a DT_SONAME: its only string entry gets an unknown tag."""
+    content = bytearray(LIBRARY.read_bytes())
+    content[176] = 30
+    return content
 
 
 def elf(abi, soname=None, kind=ET_DYN, eflags=None):

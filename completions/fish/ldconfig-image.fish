@@ -33,3 +33,5 @@ complete -c ldconfig-image -n '__fish_seen_subcommand_from lookup resolve' -l ca
 complete -c ldconfig-image -n '__fish_seen_subcommand_from resolve' -l library-path -x -d 'Directories between colons'
 complete -c ldconfig-image -n '__fish_seen_subcommand_from resolve' -l platform -x -d 'Value of $PLATFORM'
 complete -c ldconfig-image -n '__fish_seen_subcommand_from resolve' -l secure -d 'As in secure execution'
+complete -c ldconfig-image -n '__fish_seen_subcommand_from resolve' -l list -d 'List the files that the programs need'
+complete -c ldconfig-image -n '__fish_seen_subcommand_from resolve' -s 0 -d 'End the paths of a list by NUL'

@@ -1,8 +1,8 @@
 -- A command that only asks, from what it reads, its answer, and how it ends.
 use Rattle.std.proofs.Common.{◌≡◌, Result, Ok, Err, refl, subst}
 use Rattle.std.specs.Result.{result_map_both}
-use Rattle.commands.specs.Devices.{DeviceStates}
-use Rattle.commands.specs.declared.kinds.Resolve.{Resolve}
+use Rattle.tree_face.specs.Devices.{DeviceStates}
+use Rattle.command_words.specs.declared.kinds.Resolve.{Resolve}
 use Rattle.image_session.specs.Reading.{ReadsContent, ReadsImage}
 use Rattle.image_session.specs.declared.fault.LoadFault.{LoadFault}
 use Rattle.image_session.specs.declared.fault.SlotFault.{SlotFault}

@@ -1,19 +1,23 @@
 -- A command that finds what it asks for ends with its answer.
-use Rattle.std.proofs.Common.{◌≡◌, ◌⊎◌, ℕ, List, Bool, true, false, Option, Some, None, Result, Ok, Err, inl, inr, ap, refl, subst, sym, ◌∙◌}
+use Rattle.std.proofs.Common.{◌≡◌, ◌⊎◌, ◌≤◌, ℕ, List, Bool, true, false, Option, Some, None, Result, Ok, Err, inl, inr, ap, arith, refl, subst, sym, ◌∙◌}
 use Rattle.std.proofs.lemmas.Bool.{true≢false}
 use Rattle.std.specs.Prelude.{IfOk, if◌then◌else◌}
-use Rattle.std.specs.List.{list_any}
 use Rattle.std.specs.Result.{result_map_both}
-use Rattle.commands.specs.Devices.{DeviceStates, IfBothKnown}
+use Rattle.tree_face.specs.Devices.{DeviceStates, IfBothKnown}
 use Rattle.cache_reader.specs.Cache.{CachedEntry}
 use Rattle.cache_reader.specs.declared.defect.CacheDefect.{CacheDefect}
-use Rattle.commands.specs.declared.kinds.Resolve.{Resolve}
+use Rattle.command_words.specs.declared.kinds.Form.{Form}
+use Rattle.command_words.specs.declared.kinds.Form.TheVariants.{Files, Listing}
+use Rattle.command_words.specs.declared.kinds.Resolve.{Resolve}
+use Rattle.elf_interpreter.specs.Faults.{interpreter_ending}
+use Rattle.elf_interpreter.specs.declared.fault.InterpreterFault.{InterpreterFault}
+use Rattle.elf_interpreter.specs.declared.fault.InterpreterFault.TheVariants as interpreters
 use Rattle.rpath_search.specs.declared.kinds.SystemDirs.{SystemDirs}
 use Rattle.rpath_search.specs.declared.kinds.SystemDirs.TheVariants as systems
 use Rattle.image_tree.specs.Tree.{Nodes}
-use Rattle.ldd_resolve.specs.Each.{ListsEach}
+use Rattle.ldd_resolve.specs.Each.{IsStopped, ResolvesEach, ResolvesOne}
 use Rattle.ldd_resolve.specs.declared.kinds.ProgramFault.{ProgramFault}
-use Rattle.ldd_resolve.specs.declared.kinds.ProgramListing.{ProgramListing}
+use Rattle.ldd_resolve.specs.declared.kinds.ProgramScope.{ProgramScope}
 use Rattle.rpath_search.specs.declared.fault.SearchFault.{SearchFault}
 use Rattle.rpath_search.specs.declared.fault.SearchFault.TheVariants as searches
 use Rattle.image_session.specs.Manifest.{HasTree, Manifest, Empty, Faulty, manifest_of}
@@ -27,7 +31,9 @@ use Rattle.image_session.specs.declared.reading.TreeSource.TheVariants as source
 use Rattle.tree_face.specs.declared.disk.Slot.TheVariants as slots
 use Rattle.tree_face.specs.Disk.{Content, DiskContent}
 use Rattle.tree_face.specs.Known.{IfKnown}
-use Rattle.tree_face.specs.Store.{Contents}
+use Rattle.tree_face.specs.Store.{Contents, StoreState}
+use Rattle.needed_files.specs.Interpreters.{ReadsPrograms, program_keys}
+use Rattle.needed_files.specs.declared.files.NeededFiles.{NeededFiles}
 use Rattle.lib_types.specs.Counts.{HasRisen}
 use Rattle.command_status.specs.Ending.{AnswerText, EndsAs, answered, first_status}
 use Rattle.command_status.specs.declared.status.Status.{Status}
@@ -35,9 +41,9 @@ use Rattle.command_status.specs.declared.status.Status.TheVariants.{Done, Missin
 use Rattle.asking_runs.specs.AskCache.{CacheAnswer, answer_of}
 use Rattle.asking_runs.specs.Complete.{Completes, NoFault}
 use Rattle.asking_runs.specs.Faults.{of_cache, of_list}
-use Rattle.asking_runs.proofs.Listing.{none_faulty, stopped_by_memory}
-use Rattle.asking_runs.specs.Listings.{is_missing_one, listings_answer}
-use Rattle.asking_runs.specs.Resolve.{AnswersImage, CompletesListing, HaveListings, IsAnswer, IsAnswerable, ListsImage, ListsPrograms, ListsWith, cache_of, env_of}
+use Rattle.asking_runs.proofs.Listing.{all_held, all_more, inside, keys_held, lacking, none_faulty, stopped_by_memory}
+use Rattle.asking_runs.specs.Listings.{files_answer, first_fault, listings_answer}
+use Rattle.asking_runs.specs.Resolve.{AnswersAs, AnswersImage, AnswersScopes, CompletesListing, HaveListings, IsAnswer, IsAnswerable, IsFilesAnswer, ListsImage, ListsPrograms, ListsWith, cache_of, env_of}
 use Rattle.asking_runs.specs.declared.fault.CacheFault.{CacheFault}
 use Rattle.asking_runs.specs.declared.fault.ListFault.{ListFault}
 use Rattle.asking_runs.specs.declared.fault.ListFault.TheVariants as faults
@@ -93,28 +99,51 @@ module _ (old new : DeviceStates) (status : Status) where
     EndsBy answer = EndsAs (result_map_both (λ answer. answer) of_list answer) status old.sink new.sink
 
     module _ (system : SystemDirs) (tree : Nodes) (cache : Option (List CachedEntry)) (all : HaveListings system asked tree cache held) (none : NoFault old new) where
-      by_listings : (listings : Result (List ProgramListing) SearchFault) (answer : Result AnswerText ListFault) → ListsEach (Some held) tree cache (env_of system asked) asked.paths listings old.store new.store
-          → IsAnswer listings answer → EndsBy answer → Ends
-      by_listings (Ok ls) answer lists (inl is) ends =
-          let missing = list_any (λ l. is_missing_one l.listing) ls in
-          by_missing missing (subst (λ (fault : Option ProgramFault). status ≡ first_status fault (if missing then Missing else Done))
-          (none_faulty held (env_of system asked) tree cache asked.paths ls old.store new.store all lists none.store) (ended (listings_answer ls) (subst EndsBy is ends) none))
-      by_listings (Ok ls) answer lists (inr is) ends = inr (subst EndsBy is ends).0
-      by_listings (Err fault) answer lists is ends =
-          inr (subst (λ (f : SearchFault). status ≡ of_list (faults.Search f)) (stopped_by_memory held (env_of system asked) tree cache fault asked.paths old.store new.store all lists none.store)
-          (subst EndsBy is ends).0)
+      -- an answer without a fault
+      by_text : (text : AnswerText) (answer : Result AnswerText ListFault) → text.fault ≡ None → IsAnswer text answer → EndsBy answer → Ends
+      by_text text answer whole (inl is) ends =
+          by_missing text.missing (subst (λ (fault : Option ProgramFault). status ≡ first_status fault (if text.missing then Missing else Done)) whole (ended text (subst EndsBy is ends) none))
+      by_text text answer whole (inr is) ends = inr (subst EndsBy is ends).0
 
-      by_lists : (answer : Result AnswerText ListFault) → old.store.held ≡ Some held → ListsPrograms asked.paths (env_of system asked) tree cache answer old.store new.store → EndsBy answer → Ends
+      module _ (ps : List ProgramScope) (between : StoreState) (resolves : ResolvesEach (Some held) tree cache (env_of system asked) asked.paths (Ok ps) old.store between) where
+        whole : between.faults ≤ new.store.faults → first_fault ps ≡ None
+        whole more = none_faulty held (env_of system asked) tree cache asked.paths ps old.store between all resolves (λ risen. none.store (inside _ _ _ _ (omega arith) more risen))
+
+        by_files : (end : ℕ) (needed : Result NeededFiles InterpreterFault) (answer : Result AnswerText ListFault)
+            → ReadsPrograms (Some held) (program_keys tree ps) (interpreter_ending needed) between new.store → IsFilesAnswer end ps needed answer → EndsBy answer → Ends
+        by_files end (Ok needed) answer reads is ends = by_text (files_answer end needed ps) answer (whole reads.faults) is ends
+        by_files end (Err interpreters.StoreFault) answer reads is ends =
+            let before = all_more held (env_of system asked) tree cache asked.paths ps old.store between resolves in
+            absurd (lacking held (env_of system asked) tree cache _ _ (program_keys tree ps) (keys_held held (env_of system asked) tree cache asked.paths ps old.store between all resolves)
+            (λ risen. none.store (inside _ _ _ _ before (omega arith) risen)) reads.cause)
+        by_files end (Err interpreters.NoMemory) answer reads is ends = inr (subst EndsBy is ends).0
+
+        by_form : (form : Form) (answer : Result AnswerText ListFault) → between.held ≡ Some held → AnswersAs form tree ps answer between new.store → EndsBy answer → Ends
+        by_form Listing answer known answers ends = by_text (listings_answer ps) answer (whole (rw answers.1 (omega arith))) answers.0 ends
+        by_form (Files end) answer known answers ends =
+            by_files end answers.needed answer (subst (λ (h : Option Contents). ReadsPrograms h (program_keys tree ps) (interpreter_ending answers.needed) between new.store) known answers.reads)
+            answers.answer_is ends
+
+      by_scopes : (form : Form) (scopes : Result (List ProgramScope) SearchFault) (between : StoreState) (answer : Result AnswerText ListFault) → old.store.held ≡ Some held
+          → ResolvesEach (Some held) tree cache (env_of system asked) asked.paths scopes old.store between → AnswersScopes form tree scopes answer between new.store → EndsBy answer → Ends
+      by_scopes form (Ok ps) between answer known resolves answers ends =
+          by_form ps between resolves form answer (all_held held (env_of system asked) tree cache asked.paths ps old.store between resolves ∙ known) answers ends
+      by_scopes form (Err fault) between answer known resolves answers ends =
+          let stopped = subst (λ (s : StoreState). IsStopped (ResolvesOne (Some held) tree cache (env_of system asked)) fault asked.paths old.store s) (sym answers.1) resolves in
+          inr (subst (λ (f : SearchFault). status ≡ of_list (faults.Search f)) (stopped_by_memory held (env_of system asked) tree cache fault asked.paths old.store new.store all stopped none.store)
+          (subst EndsBy answers.0 ends).0)
+
+      by_lists : (answer : Result AnswerText ListFault) → old.store.held ≡ Some held → ListsPrograms asked.form asked.paths (env_of system asked) tree cache answer old.store new.store → EndsBy answer → Ends
       by_lists answer known lists ends =
-          by_listings lists.listings answer
-          (subst (λ (h : Option Contents). ListsEach h tree cache (env_of system asked) asked.paths lists.listings old.store new.store) known lists.lists) lists.answer_is ends
+          by_scopes asked.form lists.scopes lists.between answer known
+          (subst (λ (h : Option Contents). ResolvesEach h tree cache (env_of system asked) asked.paths lists.scopes old.store lists.between) known lists.resolves) lists.answers ends
 
       -- an image of this tree and cache was read
       pub by_image : (image : ReadImage) (answer : Result AnswerText ListFault) → old.store.held ≡ Some held → image.tree ≡ tree → cache_of image.cache ≡ Ok cache
           → ListsImage system asked image answer old.store new.store → EndsBy answer → Ends
       by_image image answer known same entries lists ends =
-          let by_tree = subst (λ (t : Nodes). ListsWith asked.paths (env_of system asked) t (cache_of image.cache) answer old.store new.store) same lists in
-          let by_cache = subst (λ (c : Result (Option (List CachedEntry)) CacheDefect). ListsWith asked.paths (env_of system asked) tree c answer old.store new.store) entries by_tree in
+          let by_tree = subst (λ (t : Nodes). ListsWith asked.form asked.paths (env_of system asked) t (cache_of image.cache) answer old.store new.store) same lists in
+          let by_cache = subst (λ (c : Result (Option (List CachedEntry)) CacheDefect). ListsWith asked.form asked.paths (env_of system asked) tree c answer old.store new.store) entries by_tree in
           by_lists answer known by_cache ends
 
     abbrev tree_or : Nodes → Manifest → Nodes

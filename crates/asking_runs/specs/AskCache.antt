@@ -1,7 +1,7 @@
 -- A command that reads only the cache.
 use Rattle.std.specs.Prelude.{◌≡◌, ℕ, List, Result, Ok, Err}
 use Rattle.std.specs.Result.{result_map_both}
-use Rattle.commands.specs.Devices.{DeviceStates}
+use Rattle.tree_face.specs.Devices.{DeviceStates}
 use Rattle.tree_face.specs.declared.disk.Slot.TheVariants as slots
 use Rattle.tree_face.specs.Disk.{Content}
 use Rattle.tree_face.specs.Known.{IfKnown}

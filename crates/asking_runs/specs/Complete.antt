@@ -1,7 +1,7 @@
 -- Completeness: a command that finds what it asks for says so, unless a device fails or memory runs out.
 use Rattle.std.specs.Prelude.{◌≡◌, ◌⊎◌, Result, IfOk}
 use Rattle.lib_types.specs.Counts.{HasRisen}
-use Rattle.commands.specs.Devices.{DeviceStates}
+use Rattle.tree_face.specs.Devices.{DeviceStates}
 use Rattle.command_status.specs.Ending.{AnswerText, answered}
 use Rattle.command_status.specs.declared.status.Status.{Status}
 use Rattle.command_status.specs.declared.status.Status.TheVariants.{NoMemory}

@@ -4,9 +4,13 @@ use Rattle.command_status.specs.Status.{of_load, of_resolve}
 use Rattle.command_status.specs.Usage.{load_no_usage, resolve_no_usage}
 use Rattle.command_status.specs.declared.status.Status.{Status}
 use Rattle.command_status.specs.declared.status.Status.TheVariants as statuses
+use Rattle.elf_interpreter.specs.declared.fault.InterpreterFault.{InterpreterFault}
+use Rattle.elf_interpreter.specs.declared.fault.InterpreterFault.TheVariants as interpreters
 use Rattle.image_session.specs.declared.fault.SlotFault.{SlotFault}
 use Rattle.image_session.specs.declared.fault.SlotFault.TheVariants as slot_faults
 use Rattle.ldd_resolve.specs.Faults.{of_search}
+use Rattle.rpath_search.specs.declared.fault.SearchFault.{SearchFault}
+use Rattle.rpath_search.specs.declared.fault.SearchFault.TheVariants as searches
 use Rattle.asking_runs.specs.declared.fault.CacheFault.{CacheFault}
 use Rattle.asking_runs.specs.declared.fault.CacheFault.TheVariants as caches
 use Rattle.asking_runs.specs.declared.fault.ListFault.{ListFault}
@@ -16,6 +20,11 @@ use Rattle.asking_runs.specs.declared.fault.ListFault.TheVariants as lists
 abbrev pub of_slot : SlotFault → CacheFault
 of_slot (slot_faults.DiskFailed slot) = caches.DiskFailed
 of_slot slot_faults.NoMemory = caches.NoMemory
+
+-- a fault of the reading of interpreters
+abbrev pub of_interpreter : InterpreterFault → SearchFault
+of_interpreter interpreters.StoreFault = searches.StoreFault
+of_interpreter interpreters.NoMemory = searches.NoMemory
 
 abbrev pub of_cache : CacheFault → Status
 of_cache caches.DiskFailed = statuses.DiskFault

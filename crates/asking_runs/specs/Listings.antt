@@ -1,5 +1,5 @@
--- The text of the listings of several programs (ldd(1) with several files), and what they say of the programs.
-use Rattle.std.specs.Prelude.{◌++◌, ℕ, Bool, false, List, [], ◌∷◌, codes, flat_map, if◌then◌else◌, length, nat_lt, Option, Some, None, is_some, not, Result, Ok, Err}
+-- The answers for several programs: their listings (ldd(1) with several files) or the files that they need, and what they lack.
+use Rattle.std.specs.Prelude.{◌++◌, ◌||◌, ℕ, Bool, false, List, [], ◌∷◌, codes, flat_map, if◌then◌else◌, length, nat_lt, Option, Some, None, is_some, not, Result, Ok, Err}
 use Rattle.std.specs.List.{list_all, list_any}
 use Rattle.std.specs.Option.{option_or}
 use Rattle.command_status.specs.Ending.{AnswerText}
@@ -7,26 +7,29 @@ use Rattle.command_status.specs.Status.{of_program, said}
 use Rattle.ldd_resolve.specs.Printed.{listing_text}
 use Rattle.ldd_resolve.specs.declared.kinds.Item.{Item}
 use Rattle.ldd_resolve.specs.declared.kinds.ProgramFault.{ProgramFault}
-use Rattle.ldd_resolve.specs.declared.kinds.ProgramListing.{ProgramListing}
+use Rattle.ldd_resolve.specs.declared.kinds.ProgramScope.{ProgramScope}
+use Rattle.ldd_resolve.specs.declared.kinds.Scope.{Scope}
+use Rattle.needed_files.specs.Printed.{list_text}
+use Rattle.needed_files.specs.declared.files.NeededFiles.{NeededFiles}
 use Rattle.update_report.specs.Lines.{line}
 use Rattle.asking_runs.specs.declared.listings.Listed.{Listed}
 
 -- ---- the text
 
 -- the listing, or the fault line in its place
-abbrev pub body : Result (List Item) ProgramFault → List ℕ
-body (Ok items) = listing_text items
+abbrev pub body : Result Scope ProgramFault → List ℕ
+body (Ok scope) = listing_text scope.listing
 body (Err fault) = said (of_program fault)
 
 -- if there are several listings, a line with the path is before each
 abbrev pub head : Bool → List ℕ → List ℕ
 head several path = if several then line (path ++ codes ":") else []
 
-abbrev pub part : Bool → ProgramListing → List ℕ
-part several l = head several l.path ++ body l.listing
+abbrev pub part : Bool → ProgramScope → List ℕ
+part several p = head several p.path ++ body p.scope
 
-abbrev pub listings_text : List ProgramListing → List ℕ
-listings_text ls = flat_map (part (nat_lt 1 (length ls))) ls
+abbrev pub listings_text : List ProgramScope → List ℕ
+listings_text ps = flat_map (part (nat_lt 1 (length ps))) ps
 
 -- ---- what is missing
 
@@ -34,27 +37,39 @@ listings_text ls = flat_map (part (nat_lt 1 (length ls))) ls
 abbrev pub is_whole : List Item → Bool
 is_whole items = list_all (λ item. is_some item.path) items
 
--- an item of the listing has no path
-abbrev pub is_missing_one : Result (List Item) ProgramFault → Bool
-is_missing_one (Ok items) = not (is_whole items)
+-- a needed name of the program has no path
+abbrev pub is_missing_one : Result Scope ProgramFault → Bool
+is_missing_one (Ok scope) = not (is_whole scope.listing)
 is_missing_one (Err fault) = false
 
-abbrev pub fault_in : Result (List Item) ProgramFault → Option ProgramFault
-fault_in (Ok items) = None
+abbrev pub fault_in : Result Scope ProgramFault → Option ProgramFault
+fault_in (Ok scope) = None
 fault_in (Err fault) = Some fault
 
 -- the first fault of all
-abbrev pub first_fault : List ProgramListing → Option ProgramFault
+abbrev pub first_fault : List ProgramScope → Option ProgramFault
 first_fault [] = None
-first_fault (l ∷ ls) = option_or (fault_in l.listing) (first_fault ls)
+first_fault (p ∷ ps) = option_or (fault_in p.scope) (first_fault ps)
 
--- ---- the answer
+-- ---- the answers
 
-abbrev pub listings_answer : List ProgramListing → AnswerText
-listings_answer ls = record {
-  text = listings_text ls;
-  missing = list_any (λ l. is_missing_one l.listing) ls;
-  fault = first_fault ls;
+-- a needed name of a program has no path
+abbrev pub is_missing : List ProgramScope → Bool
+is_missing ps = list_any (λ p. is_missing_one p.scope) ps
+
+abbrev pub listings_answer : List ProgramScope → AnswerText
+listings_answer ps = record {
+  text = listings_text ps;
+  missing = is_missing ps;
+  fault = first_fault ps;
+}
+
+-- the text has only paths; a path without a program has no line
+abbrev pub files_answer : ℕ → NeededFiles → List ProgramScope → AnswerText
+files_answer end needed ps = record {
+  text = list_text end needed.files;
+  missing = needed.is_missing || is_missing ps;
+  fault = first_fault ps;
 }
 
 -- ---- what private functions say

@@ -4,8 +4,8 @@ use Rattle.cache_lookup.specs.Scan.{scan}
 use Rattle.cache_lookup.specs.Sorted.{sorted_in}
 use Rattle.cache_reader.specs.Cache.{CachedEntry}
 use Rattle.cache_reader.specs.declared.defect.CacheDefect.{CacheDefect}
-use Rattle.commands.specs.declared.kinds.Lookup.{Lookup}
-use Rattle.commands.specs.Devices.{DeviceStates}
+use Rattle.command_words.specs.declared.kinds.Lookup.{Lookup}
+use Rattle.tree_face.specs.Devices.{DeviceStates}
 use Rattle.update_report.specs.Lines.{line}
 use Rattle.command_status.specs.Ending.{AnswerText}
 use Rattle.command_status.specs.declared.status.Status.{Status}

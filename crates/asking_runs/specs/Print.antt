@@ -3,7 +3,7 @@ use Rattle.std.specs.Prelude.{ℕ, false, List, Option, Some, None, Result, Ok, 
 use Rattle.cache_reader.specs.Cache.{defect}
 use Rattle.cache_reader.specs.Printed.{printed}
 use Rattle.cache_reader.specs.declared.defect.CacheDefect.{CacheDefect}
-use Rattle.commands.specs.Devices.{DeviceStates}
+use Rattle.tree_face.specs.Devices.{DeviceStates}
 use Rattle.command_status.specs.Ending.{AnswerText}
 use Rattle.command_status.specs.declared.status.Status.{Status}
 use Rattle.asking_runs.specs.AskCache.{AsksCache}

@@ -1,24 +1,32 @@
 -- The command `resolve`: what the loader loads for programs (ld.so(8); ldd(1) lists it).
-use Rattle.std.specs.Prelude.{◌≡◌, ◌⊎◌, ℕ, false, List, Option, Some, None, Result, Ok, Err}
+use Rattle.std.specs.Prelude.{◌≡◌, ◌⊎◌, ℕ, false, List, Option, Some, None, Result, Ok, Err, IfOk}
 use Rattle.std.specs.List.{AllByRecursion}
 use Rattle.std.specs.Result.{result_map_both}
 use Rattle.cache_lookup.specs.Sorted.{sorted_in}
 use Rattle.cache_reader.specs.Cache.{CachedEntry}
 use Rattle.cache_reader.specs.declared.defect.CacheDefect.{CacheDefect}
-use Rattle.commands.specs.declared.kinds.Resolve.{Resolve}
-use Rattle.commands.specs.Devices.{DeviceStates, IfBothKnown}
+use Rattle.command_words.specs.declared.kinds.Form.{Form}
+use Rattle.command_words.specs.declared.kinds.Form.TheVariants.{Files, Listing}
+use Rattle.command_words.specs.declared.kinds.Resolve.{Resolve}
+use Rattle.tree_face.specs.Devices.{DeviceStates, IfBothKnown}
 use Rattle.elf_dynamic.specs.Begun.{lacks_one}
 use Rattle.elf_dynamic.specs.declared.kinds.Object.{Object}
+use Rattle.elf_interpreter.specs.Faults.{interpreter_ending}
+use Rattle.elf_interpreter.specs.declared.fault.InterpreterFault.{InterpreterFault}
 use Rattle.rpath_search.specs.declared.kinds.SystemDirs.{SystemDirs}
 use Rattle.rpath_search.specs.declared.kinds.SystemDirs.TheVariants as systems
 use Rattle.rpath_search.specs.declared.fault.SearchFault.{SearchFault}
 use Rattle.rpath_search.specs.declared.fault.SearchFault.TheVariants as searches
-use Rattle.ldd_resolve.specs.Each.{ListsEach}
+use Rattle.ldd_resolve.specs.Each.{ResolvesEach}
 use Rattle.ldd_resolve.specs.Resolving.{object_at, program_at, record_of}
-use Rattle.ldd_resolve.specs.declared.kinds.ProgramListing.{ProgramListing}
+use Rattle.ldd_resolve.specs.declared.kinds.ProgramScope.{ProgramScope}
 use Rattle.lib_types.specs.declared.abi.Abi.TheVariants.{X86_64}
+use Rattle.needed_files.specs.Interpreters.{ReadsPrograms, program_keys}
+use Rattle.needed_files.specs.Needed.{lacks_interpreter, needed_files}
+use Rattle.needed_files.specs.declared.files.NeededFiles.{NeededFiles}
 use Rattle.rpath_search.specs.declared.kinds.Env.{Env}
 use Rattle.tree_face.specs.Disk.{Content, Slots}
+use Rattle.tree_face.specs.Known.{IfKnown}
 use Rattle.tree_face.specs.Store.{Contents, StoreState}
 use Rattle.image_tree.specs.Tree.{Nodes}
 use Rattle.image_session.specs.Manifest.{HasTree, manifest_of}
@@ -30,8 +38,8 @@ use Rattle.command_status.specs.Ending.{AnswerText, EndsAs}
 use Rattle.command_status.specs.declared.status.Status.{Status}
 use Rattle.command_status.specs.declared.status.Status.TheVariants.{Done, Missing, NoMemory}
 use Rattle.asking_runs.specs.Complete.{NoFault}
-use Rattle.asking_runs.specs.Faults.{of_list}
-use Rattle.asking_runs.specs.Listings.{listed_text, listings_answer}
+use Rattle.asking_runs.specs.Faults.{of_interpreter, of_list}
+use Rattle.asking_runs.specs.Listings.{files_answer, listed_text, listings_answer}
 use Rattle.asking_runs.specs.declared.fault.ListFault.{ListFault}
 use Rattle.asking_runs.specs.declared.fault.ListFault.TheVariants as faults
 use Rattle.asking_runs.specs.declared.listings.Listed.{Listed}
@@ -49,16 +57,39 @@ env_of system asked = record {
   system = system;
 }
 
--- the answer for the listings, unless memory runs out for its text; or the fault that ended them
-abbrev pub IsAnswer : Result (List ProgramListing) SearchFault → Result AnswerText ListFault → Type 0
-IsAnswer (Ok ls) answer = (answer ≡ Ok (listings_answer ls)) ⊎ (answer ≡ Err (faults.Search searches.NoMemory))
-IsAnswer (Err fault) answer = answer ≡ Err (faults.Search fault)
+-- this is the answer, unless memory runs out for its text
+abbrev pub IsAnswer : AnswerText → Result AnswerText ListFault → Type 0
+IsAnswer text answer = (answer ≡ Ok text) ⊎ (answer ≡ Err (faults.Search searches.NoMemory))
 
--- The programs at these paths are listed, and this is the answer.
-pub record ListsPrograms (paths : List (List ℕ)) (env : Env) (tree : Nodes) (cache : Option (List CachedEntry)) (answer : Result AnswerText ListFault) (old new : StoreState) : Type 0 where
-  pub listings : Result (List ProgramListing) SearchFault
-  pub lists : ListsEach old.held tree cache env paths listings old new
-  pub answer_is : IsAnswer listings answer
+-- the files that the programs need, or why the interpreters can't be read
+abbrev pub IsFilesAnswer : ℕ → List ProgramScope → Result NeededFiles InterpreterFault → Result AnswerText ListFault → Type 0
+IsFilesAnswer end ps (Ok needed) answer = IsAnswer (files_answer end needed ps) answer
+IsFilesAnswer end ps (Err fault) answer = answer ≡ Err (faults.Search (of_interpreter fault))
+
+-- The files of the programs are opened again for their interpreters, and this is the answer.
+pub record AnswersFiles (end : ℕ) (tree : Nodes) (ps : List ProgramScope) (answer : Result AnswerText ListFault) (old new : StoreState) : Type 0 where
+  pub needed : Result NeededFiles InterpreterFault
+  pub files : IfOk needed (λ n. IfKnown old.held (λ held. n.files ≡ needed_files held tree ps))
+  pub missing : IfOk needed (λ n. IfKnown old.held (λ held. n.is_missing ≡ lacks_interpreter held tree ps))
+  pub reads : ReadsPrograms old.held (program_keys tree ps) (interpreter_ending needed) old new
+  pub answer_is : IsFilesAnswer end ps needed answer
+
+-- the answer for these scopes in this form
+abbrev pub AnswersAs : Form → Nodes → List ProgramScope → Result AnswerText ListFault → StoreState → StoreState → Type 0
+AnswersAs Listing tree ps answer old new = IsAnswer (listings_answer ps) answer × (new ≡ old)
+AnswersAs (Files end) tree ps answer old new = AnswersFiles end tree ps answer old new
+
+-- the same, or the fault that ended the search
+abbrev pub AnswersScopes : Form → Nodes → Result (List ProgramScope) SearchFault → Result AnswerText ListFault → StoreState → StoreState → Type 0
+AnswersScopes form tree (Ok ps) answer old new = AnswersAs form tree ps answer old new
+AnswersScopes form tree (Err fault) answer old new = (answer ≡ Err (faults.Search fault)) × (new ≡ old)
+
+-- The programs at these paths are resolved, and this is the answer for their scopes.
+pub record ListsPrograms (form : Form) (paths : List (List ℕ)) (env : Env) (tree : Nodes) (cache : Option (List CachedEntry)) (answer : Result AnswerText ListFault) (old new : StoreState) : Type 0 where
+  pub scopes : Result (List ProgramScope) SearchFault
+  pub between : StoreState
+  pub resolves : ResolvesEach old.held tree cache env paths scopes old between
+  pub answers : AnswersScopes form tree scopes answer between new
 
 -- ---- from what was read
 
@@ -68,13 +99,13 @@ cache_of None = Ok None
 cache_of (Some bytes) = result_map_both Some (λ d. d) (sorted_in bytes)
 
 -- the cache is malformed, or the programs are listed with it
-abbrev pub ListsWith : List (List ℕ) → Env → Nodes → Result (Option (List CachedEntry)) CacheDefect → Result AnswerText ListFault → StoreState → StoreState → Type 0
-ListsWith paths env tree (Err d) answer old new = (answer ≡ Err (faults.BadCache d)) × (new ≡ old)
-ListsWith paths env tree (Ok cache) answer old new = ListsPrograms paths env tree cache answer old new
+abbrev pub ListsWith : Form → List (List ℕ) → Env → Nodes → Result (Option (List CachedEntry)) CacheDefect → Result AnswerText ListFault → StoreState → StoreState → Type 0
+ListsWith form paths env tree (Err d) answer old new = (answer ≡ Err (faults.BadCache d)) × (new ≡ old)
+ListsWith form paths env tree (Ok cache) answer old new = ListsPrograms form paths env tree cache answer old new
 
 -- the same, for an image that was read
 abbrev pub ListsImage : SystemDirs → Resolve → ReadImage → Result AnswerText ListFault → StoreState → StoreState → Type 0
-ListsImage system asked image answer old new = ListsWith asked.paths (env_of system asked) image.tree (cache_of image.cache) answer old new
+ListsImage system asked image answer old new = ListsWith asked.form asked.paths (env_of system asked) image.tree (cache_of image.cache) answer old new
 
 abbrev pub AnswersImage : Resolve → Result ReadImage LoadFault → Result AnswerText ListFault → StoreState → StoreState → Type 0
 AnswersImage asked (Err fault) answer old new = (answer ≡ Err (faults.Image fault)) × (new ≡ old)

@@ -1,12 +1,13 @@
 //! Why a command that only asks has no answer.
 ghost use Rattle.std.specs.Prelude.{◌≡◌};
-ghost use Rattle.asking_runs.specs.Faults.{of_slot};
+ghost use Rattle.asking_runs.specs.Faults.{of_interpreter, of_slot};
 ghost use Rattle.asking_runs.specs.declared.fault.CacheFault.TheVariants as caches;
 ghost use Rattle.asking_runs.specs.declared.fault.ListFault.TheVariants as lists;
 ghost use Rattle.rpath_search.specs.declared.fault.SearchFault.TheVariants as searches;
 
 use cache_reader::CacheDefect;
 use command_status::{Fault, Status};
+use elf_interpreter::InterpreterFault;
 use image_session::{LoadFault, SlotFault};
 use ldd_resolve::ResolveFault;
 use lib_types::NoMemory;
@@ -84,6 +85,17 @@ impl From<SearchFault> for ListFault {
 
     fn from(fault: SearchFault) -> Self {
         ListFault::Search(fault)
+    }
+}
+
+impl From<InterpreterFault> for ListFault {
+    ghost from_gives = { λ fault e. e ≡ lists.Search (of_interpreter fault) };
+
+    fn from(fault: InterpreterFault) -> Self {
+        match fault {
+            InterpreterFault::StoreFault => ListFault::Search(SearchFault::StoreFault),
+            InterpreterFault::NoMemory => ListFault::Search(SearchFault::NoMemory),
+        }
     }
 }
 

@@ -1,14 +1,15 @@
-//! The text of the listings of several programs, and what they say of the programs.
-ghost use Rattle.std.specs.Prelude.{◌≡◌, ◌++◌, flat_map, IfOk, OnOk};
-ghost use Rattle.asking_runs.specs.Listings.{body, fault_in, first_fault, head, is_missing_one, is_whole, listed_text, listings_answer, part};
+//! The answers for several programs, and what they say of the programs.
+ghost use Rattle.std.specs.Prelude.{◌≡◌, ◌++◌, ◌||◌, flat_map, IfOk, OnOk};
+ghost use Rattle.asking_runs.specs.Listings.{body, fault_in, files_answer, first_fault, head, is_missing, is_missing_one, is_whole, listed_text, listings_answer, part};
 
 use command_status::{Answer, Status, add_fault_line};
-use ldd_resolve::{Listing, Listings, ProgramFault, ProgramListing, listing_text};
+use ldd_resolve::{Listing, ProgramFault, ProgramScope, ProgramScopes, Scope, listing_text};
 use lib_types::{Failed, NoMemory};
+use needed_files::{NeededFiles, list_text};
 use std::alloc::Global;
 use tree_face::{Sink, put_all};
 
-/// The listings of several programs, as text.
+/// The answer for several programs, as text.
 #[derive(Drop)]
 pub struct Listed {
     pub text: Vec<u8>,
@@ -43,55 +44,55 @@ fn is_whole(listing: &Listing) -> bool
     listing.as_slice().iter().all(|item| item.path.is_some())
 }
 
-fn is_missing_one(listing: &Result<Listing, ProgramFault>) -> bool
-    ensures { result ≡ is_missing_one listing.now }
+fn is_missing_one(scope: &Result<Scope, ProgramFault>) -> bool
+    ensures { result ≡ is_missing_one scope.now }
 {
-    match listing {
-        Ok(items) => !is_whole(items),
+    match scope {
+        Ok(scope) => !is_whole(&scope.listing),
         Err(_) => false,
     }
 }
 
-fn fault_in(listing: &Result<Listing, ProgramFault>) -> Option<ProgramFault>
-    ensures { result ≡ fault_in listing.now }
+fn fault_in(scope: &Result<Scope, ProgramFault>) -> Option<ProgramFault>
+    ensures { result ≡ fault_in scope.now }
 {
-    match listing {
+    match scope {
         Ok(_) => None,
         Err(fault) => Some(*fault),
     }
 }
 
-fn first_fault(listings: &[ProgramListing]) -> Option<ProgramFault>
-    ensures { result ≡ first_fault listings.now }
+fn first_fault(programs: &[ProgramScope]) -> Option<ProgramFault>
+    ensures { result ≡ first_fault programs.now }
 {
-    for listing in listings {
-        if let Some(fault) = fault_in(&listing.listing) {
+    for program in programs {
+        if let Some(fault) = fault_in(&program.scope) {
             return Some(fault);
         }
     }
     None
 }
 
-fn is_missing(listings: &Listings) -> bool
-    ensures { result ≡ (listings_answer listings.now).missing }
+fn is_missing(programs: &ProgramScopes) -> bool
+    ensures { result ≡ is_missing programs.now }
 {
-    listings
+    programs
         .as_slice()
         .iter()
-        .any(|l| is_missing_one(&l.listing))
+        .any(|program| is_missing_one(&program.scope))
 }
 
 // Adds a listing, or the fault line in its place.
 fn add_body(
     alloc: Global,
     text: &mut Vec<u8>,
-    listing: &Result<Listing, ProgramFault>,
+    scope: &Result<Scope, ProgramFault>,
 ) -> Result<(), NoMemory>
-    ensures { OnOk result (text.new.items ≡ text.old.items ++ body listing.now) }
+    ensures { OnOk result (text.new.items ≡ text.old.items ++ body scope.now) }
 {
-    match listing {
-        Ok(items) => {
-            text.extend_from_slice(&listing_text(alloc, items)?)?;
+    match scope {
+        Ok(scope) => {
+            text.extend_from_slice(&listing_text(alloc, &scope.listing)?)?;
             Ok(())
         }
         Err(fault) => add_fault_line(text, Status::from(*fault)),
@@ -113,31 +114,54 @@ fn add_part(
     alloc: Global,
     text: &mut Vec<u8>,
     several: bool,
-    listing: &ProgramListing,
+    program: &ProgramScope,
 ) -> Result<(), NoMemory>
-    ensures { OnOk result (text.new.items ≡ text.old.items ++ part several listing.now) }
+    ensures { OnOk result (text.new.items ≡ text.old.items ++ part several program.now) }
 {
-    add_head(text, several, listing.path.as_bytes())?;
-    add_body(alloc, text, &listing.listing)
+    add_head(text, several, program.path.as_bytes())?;
+    add_body(alloc, text, &program.scope)
 }
 
-fn text_of(alloc: Global, several: bool, listings: &[ProgramListing]) -> Result<Vec<u8>, NoMemory>
-    ensures { IfOk result (λ text. text.items ≡ flat_map (part several) listings.now) }
+fn text_of(alloc: Global, several: bool, programs: &[ProgramScope]) -> Result<Vec<u8>, NoMemory>
+    ensures { IfOk result (λ text. text.items ≡ flat_map (part several) programs.now) }
 {
     let mut text = Vec::new(alloc);
-    for listing in listings {
-        add_part(alloc, &mut text, several, listing)?;
+    for program in programs {
+        add_part(alloc, &mut text, several, program)?;
     }
     Ok(text)
 }
 
-/// The answer for these listings.
-pub(crate) fn answer_for(alloc: Global, listings: &Listings) -> Result<Listed, NoMemory>
-    ensures { IfOk result (λ listed. listed_text listed ≡ listings_answer listings.now) }
+// The answer with this text, where more may be missing than what the listings say.
+fn answer_with(text: Vec<u8>, is_lacking: bool, programs: &ProgramScopes) -> Listed
+    ensures text { result.text.items ≡ text.items }
+    ensures missing { result.is_missing ≡ (is_lacking || is_missing programs.now) }
+    ensures fault { result.fault ≡ first_fault programs.now }
 {
-    Ok(Listed {
-        text: text_of(alloc, listings.len() > 1, listings.as_slice())?,
-        is_missing: is_missing(listings),
-        fault: first_fault(listings.as_slice()),
-    })
+    Listed {
+        text,
+        is_missing: is_lacking || is_missing(programs),
+        fault: first_fault(programs.as_slice()),
+    }
+}
+
+/// The listings of these programs.
+pub(crate) fn listings_for(alloc: Global, programs: &ProgramScopes) -> Result<Listed, NoMemory>
+    ensures { IfOk result (λ listed. listed_text listed ≡ listings_answer programs.now) }
+{
+    let text = text_of(alloc, programs.len() > 1, programs.as_slice())?;
+    Ok(answer_with(text, false, programs))
+}
+
+/// The list of the files that these programs need, each path ended by this byte.
+pub(crate) fn files_for(
+    alloc: Global,
+    end: u8,
+    needed: &NeededFiles,
+    programs: &ProgramScopes,
+) -> Result<Listed, NoMemory>
+    ensures { IfOk result (λ listed. listed_text listed ≡ files_answer end needed.now programs.now) }
+{
+    let text = list_text(alloc, needed.files.as_slice(), end)?;
+    Ok(answer_with(text, needed.is_missing, programs))
 }

@@ -2,7 +2,7 @@
 ghost use Rattle.std.specs.Prelude.{◌≡◌, option_map};
 ghost use Rattle.std.specs.Result.{result_map_both};
 ghost use Rattle.cache_lookup.specs.Scan.{AreDescending, scan};
-ghost use Rattle.commands.specs.Devices.{states};
+ghost use Rattle.tree_face.specs.Devices.{states};
 ghost use Rattle.tree_face.specs.Store.{StoreState};
 ghost use Rattle.tree_face.specs.Stream.{SourceState, TakesAll};
 ghost use Rattle.update_report.specs.Lines.{line};
@@ -13,7 +13,7 @@ use crate::cache::cache_in;
 use crate::fault::CacheFault;
 use cache_lookup::{Counted, Sorted, sorted_cache};
 use command_status::{Answer, Status, end};
-use commands::Lookup;
+use command_words::Lookup;
 use image_session::{SlotFault, read_slot};
 use ldd_resolve::ProgramFault;
 use lib_types::{Failed, Text};

@@ -1,7 +1,7 @@
 //! The command `print`.
 ghost use Rattle.std.specs.Prelude.{◌≡◌};
 ghost use Rattle.std.specs.Result.{result_map_both};
-ghost use Rattle.commands.specs.Devices.{states};
+ghost use Rattle.tree_face.specs.Devices.{states};
 ghost use Rattle.tree_face.specs.Store.{StoreState};
 ghost use Rattle.tree_face.specs.Stream.{SourceState};
 ghost use Rattle.asking_runs.specs.AskCache.{answer_of};

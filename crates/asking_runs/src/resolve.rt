@@ -1,31 +1,34 @@
 //! The command `resolve`.
 ghost use Rattle.std.specs.Prelude.{◌≡◌};
 ghost use Rattle.std.specs.Option.{option_copied};
-ghost use Rattle.commands.specs.Devices.{states};
+ghost use Rattle.tree_face.specs.Devices.{states};
 ghost use Rattle.tree_face.specs.Stream.{SourceState};
-ghost use Rattle.asking_runs.specs.Resolve.{AnswersImage, ListsImage, ListsPrograms, ListsWith, ResolveRun, cache_of, env_of, listed_answer};
+ghost use Rattle.asking_runs.specs.Resolve.{AnswersAs, AnswersFiles, AnswersImage, ListsImage, ListsPrograms, ListsWith, ResolveRun, cache_of, env_of, listed_answer};
 
 use crate::fault::ListFault;
-use crate::listings::{Listed, answer_for};
+use crate::listings::{Listed, files_for, listings_for};
 use cache_lookup::{Sorted, sorted_cache};
 use command_status::{Status, end};
-use commands::Resolve;
+use command_words::{Form, Resolve};
 use image_session::{LoadFault, ReadImage, TreeSource, read_image};
-use ldd_resolve::resolve_each;
+use ldd_resolve::{ProgramScopes, resolve_each};
 use lib_types::{Abi, Texts};
+use needed_files::needed_files;
 use rpath_search::{Env, SystemDirs};
 use std::alloc::Global;
 use tree_face::{Disk, Sink, Store, Tree};
 
-// The programs to list, and the loader's environment.
+// The programs to list, the form of the answer, and the loader's environment.
 #[derive(Drop)]
 struct Programs {
+    form: Form,
     paths: Texts,
     env: Env,
 }
 
-// The programs and the loader's environment.
+// The programs, the form of the answer, and the loader's environment.
 fn programs_of(asked: Resolve, system: SystemDirs) -> Programs
+    ensures form { result.form ≡ asked.form }
     ensures paths { result.paths ≡ asked.paths }
     ensures env { result.env ≡ env_of system asked }
 {
@@ -35,6 +38,7 @@ fn programs_of(asked: Resolve, system: SystemDirs) -> Programs
         library_path,
         platform,
         secure,
+        form,
     } = asked;
     let env = Env {
         abi: Abi::X86_64,
@@ -44,10 +48,40 @@ fn programs_of(asked: Resolve, system: SystemDirs) -> Programs
         secure,
         system,
     };
-    Programs { paths, env }
+    Programs { form, paths, env }
 }
 
-// The listings of the programs.
+// The list of the files that these programs need.
+fn answer_files<S: Store>(
+    alloc: Global,
+    end: u8,
+    tree: &Tree,
+    store: &mut S,
+    scopes: &ProgramScopes,
+) -> Result<Listed, ListFault>
+    ensures { AnswersFiles end tree.now scopes.now (listed_answer result) (S.state store.old) (S.state store.new) }
+{
+    let needed = needed_files(alloc, tree, store, scopes)?;
+    Ok(files_for(alloc, end, &needed, scopes)?)
+}
+
+// The answer for these scopes in this form.
+fn answer_as<S: Store>(
+    alloc: Global,
+    form: Form,
+    tree: &Tree,
+    store: &mut S,
+    scopes: &ProgramScopes,
+) -> Result<Listed, ListFault>
+    ensures { AnswersAs form tree.now scopes.now (listed_answer result) (S.state store.old) (S.state store.new) }
+{
+    match form {
+        Form::Listing => Ok(listings_for(alloc, scopes)?),
+        Form::Files { end } => answer_files(alloc, end, tree, store, scopes),
+    }
+}
+
+// The answer for the programs.
 fn list<S: Store>(
     alloc: Global,
     programs: Programs,
@@ -55,11 +89,11 @@ fn list<S: Store>(
     cache: Option<&Sorted<'_>>,
     store: &mut S,
 ) -> Result<Listed, ListFault>
-    ensures { ListsPrograms programs.paths programs.env tree.now (option_copied cache.entry) (listed_answer result) (S.state store.old) (S.state store.new) }
+    ensures { ListsPrograms programs.form programs.paths programs.env tree.now (option_copied cache.entry) (listed_answer result) (S.state store.old) (S.state store.new) }
 {
-    let Programs { paths, env } = programs;
-    let listings = resolve_each(alloc, tree, store, cache, paths, &env)?;
-    Ok(answer_for(alloc, &listings)?)
+    let Programs { form, paths, env } = programs;
+    let scopes = resolve_each(alloc, tree, store, cache, paths, &env)?;
+    answer_as(alloc, form, tree, store, &scopes)
 }
 
 // The answer for an image, if its cache is well-formed.
@@ -69,7 +103,7 @@ fn list_in<S: Store>(
     image: &ReadImage,
     store: &mut S,
 ) -> Result<Listed, ListFault>
-    ensures { ListsWith programs.paths programs.env image.now.tree (cache_of image.now.cache) (listed_answer result) (S.state store.old) (S.state store.new) }
+    ensures { ListsWith programs.form programs.paths programs.env image.now.tree (cache_of image.now.cache) (listed_answer result) (S.state store.old) (S.state store.new) }
 {
     let Some(bytes) = &image.cache else {
         return list(alloc, programs, &image.tree, None, store);
@@ -78,7 +112,7 @@ fn list_in<S: Store>(
     list(alloc, programs, &image.tree, Some(&cache), store)
 }
 
-/// The listings of programs of an image that was read.
+/// The answer for programs of an image that was read.
 pub fn list_image<S: Store>(
     alloc: Global,
     asked: Resolve,

@@ -1,8 +1,8 @@
 -- What a command does with its values.
-use Rattle.commands.specs.declared.kinds.Command.{Command}
-use Rattle.commands.specs.declared.kinds.Command.TheVariants as commands
+use Rattle.command_words.specs.declared.kinds.Command.{Command}
+use Rattle.command_words.specs.declared.kinds.Command.TheVariants as commands
 use Rattle.command_status.specs.declared.status.Status.{Status}
-use Rattle.commands.specs.Devices.{DeviceStates}
+use Rattle.tree_face.specs.Devices.{DeviceStates}
 use Rattle.asking_runs.specs.Lookup.{LookupRun}
 use Rattle.asking_runs.specs.Print.{PrintRun}
 use Rattle.asking_runs.specs.Resolve.{ResolveRun}

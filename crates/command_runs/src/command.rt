@@ -1,16 +1,16 @@
 //! The commands.
 ghost use Rattle.std.specs.Prelude.{◌≡◌};
-ghost use Rattle.commands.specs.Devices.{states_in, states_left};
+ghost use Rattle.tree_face.specs.Devices.{states_in, states_left};
 ghost use Rattle.command_runs.specs.Commands.{RunsCommand};
 ghost use Rattle.command_status.specs.Status.{EndsWith};
 
 use asking_runs::{run_lookup, run_print, run_resolve};
 use command_status::{Status, put_fault_line};
-use commands::{Command, Devices};
+use command_words::Command;
 use sample_runs::run_sample;
 use script_runs::{run_batch, run_update};
 use std::alloc::Global;
-use tree_face::{Disk, Sink, Source, Store};
+use tree_face::{Devices, Disk, Sink, Source, Store};
 use update_runs::Updater;
 
 /// Writes the fault line of invalid arguments, and returns their status.

@@ -1,6 +1,6 @@
 -- A command leaves the temporary files of another tag as they are.
 use Rattle.std.proofs.Common.{◌≡◌, [], Result, Ok, Err, refl, ap, ◌∙◌, inl, inr}
-use Rattle.commands.specs.Devices.{DeviceStates}
+use Rattle.tree_face.specs.Devices.{DeviceStates}
 use Rattle.tree_face.specs.declared.disk.Slot.{Slot}
 use Rattle.tree_face.specs.declared.disk.Tag.{Tag}
 use Rattle.image_session.specs.declared.fault.LoadFault.{LoadFault}

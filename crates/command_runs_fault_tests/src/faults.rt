@@ -5,7 +5,7 @@ use command_runs_fixture::{
     Wanted, all, done, has, image, is_left, make_devices, refused, replacing_calls, run_into,
     run_update,
 };
-use commands::Command;
+use command_words::Command;
 use lib_types::NoMemory;
 use mtree_manifest::{LineKind, ManifestFault};
 use std::alloc::Global;

@@ -1,10 +1,10 @@
 //! Several updaters at one disk: each has its own temporary files.
 use command_runs::{Status, run_command};
 use command_runs_fixture::{LIBZ_MANIFEST, ONE_CACHE, has, image, libz_held, make_devices};
-use commands::{Command, Devices};
+use command_words::Command;
 use std::alloc::Global;
 use std::test::Fail;
-use tree_face::{Disk, Slot, Tag};
+use tree_face::{Devices, Disk, Slot, Tag};
 
 fn is(found: &Option<Vec<u8>>, want: &[u8]) -> bool {
     match found {

@@ -4,7 +4,7 @@ ghost use Rattle.std.specs.Prelude.{◌≡◌, ◌∷◌, [], Some, None, IfOk, 
 use crate::narrow_sink::NarrowSink;
 use crate::samples::NO_STAMPS;
 use command_runs::{Status, run_command};
-use commands::Command;
+use command_words::Command;
 use lib_types::{NoMemory, Text};
 use std::alloc::Global;
 use tree_face::{Call, Disk, DoneCall, MemDisk, MemSink, MemSource, MemStore, Slot, Tag};
@@ -144,7 +144,7 @@ fn run(alloc: Global, command: Command, devices: &mut Devices) -> Status {
     run_command(
         alloc,
         command,
-        commands::Devices {
+        tree_face::Devices {
             store: &mut devices.store,
             disk: &mut devices.disk,
             source: &mut devices.input,
@@ -173,7 +173,7 @@ pub fn run_into(
     run_command(
         alloc,
         command,
-        commands::Devices {
+        tree_face::Devices {
             store: &mut devices.store,
             disk: &mut devices.disk,
             source: &mut devices.input,

@@ -47,6 +47,10 @@ option_rule id = record (new_rule id) { long = Some id }
 abbrev pub flag_rule : List ℕ → Rule
 flag_rule id = record (option_rule id) { action = Some SetTrue }
 
+-- `-C`, without a value, once at most
+abbrev pub letter_rule : List ℕ → ℕ → Rule
+letter_rule id letter = record (new_rule id) { action = Some SetTrue; short = Some letter }
+
 -- `-r ROOT` or `--root ROOT`, once at most: a directory, whose name is not empty
 abbrev pub root_rule : Rule
 root_rule = record (new_rule (codes "ROOT")) { parser = Some NonEmptyString; short = Some (byte "r"); long = Some (codes "root") }
@@ -69,6 +73,10 @@ tagged = with_rule without_requests (option_rule (codes "tag"))
 abbrev pub searched : App
 searched = with_rule (with_rule asking (words_rule (codes "PATH"))) (option_rule (codes "caps"))
 
+-- the same, with what the loader is given beside the files
+abbrev pub loaded : App
+loaded = with_rule (with_rule (with_rule searched (option_rule (codes "library-path"))) (option_rule (codes "platform"))) (flag_rule (codes "secure"))
+
 -- the options of a command, and the arguments that it needs
 unfoldable pub app : Verb → App
 app Update = tagged
@@ -76,4 +84,4 @@ app Batch = tagged
 app Sample = with_rule without_requests (word_rule (codes "N"))
 app Print = asking
 app Lookup = with_rule (with_rule (with_rule asking (word_rule (codes "NAME"))) (option_rule (codes "abi"))) (option_rule (codes "caps"))
-app Resolve = with_rule (with_rule (with_rule searched (option_rule (codes "library-path"))) (option_rule (codes "platform"))) (flag_rule (codes "secure"))
+app Resolve = with_rule (with_rule loaded (flag_rule (codes "list"))) (letter_rule (codes "null") (byte "0"))

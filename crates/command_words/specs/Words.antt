@@ -1,5 +1,5 @@
 -- The command of arguments.
-use Rattle.std.specs.Prelude.{◌≡◌, ◌==◌, ◌&&◌, nat_le, ⊤, ℕ, Bool, false, not, List, [], codes, length, Option, Some, None, Result, Ok, Err, option_map, option_and_then, unwrap_or, if◌then◌else◌}
+use Rattle.std.specs.Prelude.{◌≡◌, ◌==◌, ◌&&◌, nat_le, ⊤, ℕ, Bool, true, false, not, List, [], codes, length, Option, Some, None, Result, Ok, Err, option_map, option_and_then, unwrap_or, if◌then◌else◌}
 use Rattle.std.specs.List.{list_all}
 use Rattle.std.specs.Option.{option_map_or}
 use Rattle.clap.specs.Words.{Row, all_of, fault_of, first_of, matches_of, takes}
@@ -10,10 +10,12 @@ use Rattle.command_words.specs.Values.{caps_in, is_true, is_value, number_in}
 use Rattle.command_words.specs.declared.fault.WordsFault.{WordsFault}
 use Rattle.command_words.specs.declared.fault.WordsFault.TheVariants as faults
 use Rattle.command_words.specs.declared.line.CommandLine.{CommandLine}
-use Rattle.commands.specs.declared.kinds.Command.{Command}
-use Rattle.commands.specs.declared.kinds.Command.TheVariants as commands
-use Rattle.commands.specs.declared.kinds.Lookup.{Lookup}
-use Rattle.commands.specs.declared.kinds.Resolve.{Resolve}
+use Rattle.command_words.specs.declared.kinds.Command.{Command}
+use Rattle.command_words.specs.declared.kinds.Command.TheVariants as commands
+use Rattle.command_words.specs.declared.kinds.Form.{Form}
+use Rattle.command_words.specs.declared.kinds.Form.TheVariants.{Files, Listing}
+use Rattle.command_words.specs.declared.kinds.Lookup.{Lookup}
+use Rattle.command_words.specs.declared.kinds.Resolve.{Resolve}
 use Rattle.tree_face.specs.declared.disk.Tag.{Tag}
 use Rattle.command_words.specs.declared.reading.TheConstants.{SAMPLE_MAX}
 use Rattle.command_words.specs.declared.verb.Verb.{Verb}
@@ -50,8 +52,18 @@ lookup_by found = option_and_then (λ name. option_and_then (λ abi. option_map 
     (caps_by found)) (abi_by found)) (value_by (codes "NAME") [] found)
 
 -- whether the flag is given
-abbrev pub secure_by : List Row → Bool
-secure_by found = option_map_or is_true (first_of (codes "secure") found) false
+abbrev pub flag_by : List ℕ → List Row → Bool
+flag_by id found = option_map_or is_true (first_of id found) false
+
+-- `--list` ends each path by a newline, with `-0` by NUL; `-0` is for a list alone
+abbrev pub form_of : Bool → Bool → Option Form
+form_of true true = Some (Files 0)
+form_of true false = Some (Files 10)
+form_of false true = None
+form_of false false = Some Listing
+
+abbrev pub form_by : List Row → Option Form
+form_by found = form_of (flag_by (codes "list") found) (flag_by (codes "null") found)
 
 -- all values of an argument, in order; None if one of them is not a value
 abbrev pub values_by : List ℕ → List Row → Option (List (List ℕ))
@@ -60,9 +72,9 @@ values_by id found =
     if list_all is_value texts then Some texts else None
 
 abbrev pub resolve_by : List Row → Option Resolve
-resolve_by found = option_and_then (λ paths. option_and_then (λ caps. option_and_then (λ library_path. option_map (λ platform.
-    record { paths = paths; caps = caps; library_path = library_path; platform = platform; secure = secure_by found })
-    (value_by (codes "platform") [] found)) (value_by (codes "library-path") [] found)) (caps_by found)) (values_by (codes "PATH") found)
+resolve_by found = option_and_then (λ paths. option_and_then (λ caps. option_and_then (λ library_path. option_and_then (λ platform. option_map (λ form.
+    record { paths = paths; caps = caps; library_path = library_path; platform = platform; secure = flag_by (codes "secure") found; form = form })
+    (form_by found)) (value_by (codes "platform") [] found)) (value_by (codes "library-path") [] found)) (caps_by found)) (values_by (codes "PATH") found)
 
 -- the command with these values, if all of them are valid
 abbrev pub command_by : Verb → List Row → Option Command

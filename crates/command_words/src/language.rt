@@ -1,7 +1,7 @@
 //! The arguments of each command, as `clap` reads them.
 ghost use Rattle.std.specs.Prelude.{◌≡◌, false, IfOk};
 ghost use Rattle.clap.specs.Words.{app_of, rule_of, with_rule};
-ghost use Rattle.command_words.specs.Language.{app, asking, flag_rule, option_rule, root_rule, searched, tagged, without_requests, word_rule, words_rule};
+ghost use Rattle.command_words.specs.Language.{app, asking, flag_rule, letter_rule, loaded, option_rule, root_rule, searched, tagged, without_requests, word_rule, words_rule};
 
 use crate::verb::Verb;
 use clap::builder::ValueParser;
@@ -38,6 +38,14 @@ fn flag<'a>(alloc: Global, id: &'a str) -> Arg<'a>
     ensures local { result.global ≡ false }
 {
     option(alloc, id).action(ArgAction::SetTrue)
+}
+
+// An option of one character, without a value.
+fn letter<'a>(alloc: Global, id: &'a str, short: char) -> Arg<'a>
+    ensures rule { rule_of result ≡ letter_rule id.entry.now short }
+    ensures local { result.global ≡ false }
+{
+    Arg::new(alloc, id).action(ArgAction::SetTrue).short(short)
 }
 
 // The option that names a directory, by a letter or a name.
@@ -106,13 +114,21 @@ fn searched<'a>(alloc: Global) -> Result<Command<'a>, AllocError>
     with(named, option(alloc, "caps"))
 }
 
-#[tactic(auto, unfolding(crate::specs::Language::app))]
-fn resolve<'a>(alloc: Global) -> Result<Command<'a>, AllocError>
-    ensures { IfOk result (λ c. app_of c ≡ app Verb.Resolve) }
+// The same, with what the loader is given beside the files.
+fn loaded<'a>(alloc: Global) -> Result<Command<'a>, AllocError>
+    ensures { IfOk result (λ c. app_of c ≡ loaded) }
 {
     let with_library_path = with(searched(alloc)?, option(alloc, "library-path"))?;
     let with_platform = with(with_library_path, option(alloc, "platform"))?;
     with(with_platform, flag(alloc, "secure"))
+}
+
+#[tactic(auto, unfolding(crate::specs::Language::app))]
+fn resolve<'a>(alloc: Global) -> Result<Command<'a>, AllocError>
+    ensures { IfOk result (λ c. app_of c ≡ app Verb.Resolve) }
+{
+    let with_list = with(loaded(alloc)?, flag(alloc, "list"))?;
+    with(with_list, letter(alloc, "null", '0'))
 }
 
 /// The arguments of this command.

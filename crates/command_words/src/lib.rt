@@ -2,6 +2,7 @@
 #![tactic(auto)]
 
 mod fault;
+mod kinds;
 mod language;
 mod line;
 mod reading;
@@ -9,6 +10,7 @@ mod values;
 mod verb;
 
 pub use fault::WordsFault;
+pub use kinds::{Command, Form, Lookup, Resolve};
 pub use line::CommandLine;
 pub use reading::line_of;
 pub use verb::{Verb, help_of};

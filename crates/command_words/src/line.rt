@@ -1,5 +1,5 @@
 //! The command line.
-use commands::Command;
+use crate::kinds::Command;
 use lib_types::Text;
 
 /// A command, and the directory that it reads.

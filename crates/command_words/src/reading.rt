@@ -4,18 +4,18 @@ ghost use Rattle.std.specs.List.{list_all};
 ghost use Rattle.std.specs.String.{string_bytes};
 ghost use Rattle.clap.specs.Words.{all_of, app_of, fault_of, first_of, found_of, matches_of, rows_of, takes};
 ghost use Rattle.command_words.specs.Language.{app, verb_in};
-ghost use Rattle.command_words.specs.Words.{Gives, abi_by, are_taken, caps_by, command_by, line_by, line_in, lookup_by, resolve_by, root_by, secure_by, size_by, tag_by, value_by, values_by, values_in};
+ghost use Rattle.command_words.specs.Words.{Gives, abi_by, are_taken, caps_by, command_by, flag_by, form_by, form_of, line_by, line_in, lookup_by, resolve_by, root_by, size_by, tag_by, value_by, values_by, values_in};
 ghost use Rattle.command_words.specs.Values.{is_value};
 ghost use Rattle.command_words.specs.declared.fault.WordsFault.TheVariants as faults;
 
 use crate::fault::WordsFault;
+use crate::kinds::{Command, Form, Lookup, Resolve};
 use crate::language::arguments_of;
 use crate::line::CommandLine;
 use crate::values::{caps_in, is_true, is_value, number};
 use crate::verb::{Verb, verb_in};
 use clap::ArgMatches;
 use clap::error::ErrorKind;
-use commands::{Command, Lookup, Resolve};
 use lib_types::{Abi, NoMemory, Text, Texts};
 use std::alloc::Global;
 use tree_face::Tag;
@@ -110,12 +110,33 @@ fn lookup_by(alloc: Global, found: &ArgMatches<'_>) -> Result<Lookup, WordsFault
 }
 
 // Whether the flag is given.
-fn secure_by(found: &ArgMatches<'_>) -> bool
-    ensures { result ≡ secure_by (rows_of (found_of found.now)) }
+fn flag_by(found: &ArgMatches<'_>, id: &str) -> bool
+    ensures { result ≡ flag_by id.now (rows_of (found_of found.now)) }
 {
-    match first_of(found, "secure") {
+    match first_of(found, id) {
         Some(text) => is_true(text),
         None => false,
+    }
+}
+
+// How the answer is written, if these flags can be given together.
+fn form_of(list: bool, null: bool) -> Option<Form>
+    ensures { result ≡ form_of list null }
+{
+    match (list, null) {
+        (true, true) => Some(Form::Files { end: 0 }),
+        (true, false) => Some(Form::Files { end: b'\n' }),
+        (false, true) => None,
+        (false, false) => Some(Form::Listing),
+    }
+}
+
+fn form_by(found: &ArgMatches<'_>) -> Result<Form, WordsFault>
+    ensures { Gives (form_by (rows_of (found_of found.now))) result }
+{
+    match form_of(flag_by(found, "list"), flag_by(found, "null")) {
+        Some(form) => Ok(form),
+        None => Err(WordsFault::Usage),
     }
 }
 
@@ -176,13 +197,15 @@ fn resolve_by(alloc: Global, found: &ArgMatches<'_>) -> Result<Resolve, WordsFau
     let caps = caps_by(alloc, found)?;
     let library_path = text_by(alloc, found, "library-path")?;
     let platform = text_by(alloc, found, "platform")?;
-    let secure = secure_by(found);
+    let secure = flag_by(found, "secure");
+    let form = form_by(found)?;
     Ok(Resolve {
         paths,
         caps,
         library_path,
         platform,
         secure,
+        form,
     })
 }
 

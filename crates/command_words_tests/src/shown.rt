@@ -1,6 +1,5 @@
 //! A command as text: its name, and a line for each of its values.
-use command_words::{CommandLine, Verb, WordsFault};
-use commands::{Command, Lookup, Resolve};
+use command_words::{Command, CommandLine, Form, Lookup, Resolve, Verb, WordsFault};
 use lib_types::{NoMemory, Texts};
 use std::alloc::Global;
 use tree_face::Tag;
@@ -47,6 +46,16 @@ fn put_lookup(alloc: Global, text: &mut Vec<u8>, lookup: &Lookup) -> Result<(), 
     put_caps(text, &lookup.caps)
 }
 
+// The byte that ends a path of a list is shown by its name.
+fn put_form(text: &mut Vec<u8>, form: Form) -> Result<(), NoMemory> {
+    match form {
+        Form::Listing => Ok(()),
+        Form::Files { end: b'\n' } => put_line(text, b"list", b" newline"),
+        Form::Files { end: 0 } => put_line(text, b"list", b" NUL"),
+        Form::Files { .. } => put_line(text, b"list", b" other"),
+    }
+}
+
 fn put_resolve(text: &mut Vec<u8>, resolve: &Resolve) -> Result<(), NoMemory> {
     put_paths(text, &resolve.paths)?;
     put_caps(text, &resolve.caps)?;
@@ -55,7 +64,7 @@ fn put_resolve(text: &mut Vec<u8>, resolve: &Resolve) -> Result<(), NoMemory> {
     if resolve.secure {
         put_line(text, b"secure", b"")?;
     }
-    Ok(())
+    put_form(text, resolve.form)
 }
 
 fn put_command(alloc: Global, text: &mut Vec<u8>, command: &Command) -> Result<(), NoMemory> {

@@ -1,2 +1,3 @@
 mod BelowRoot
+mod LastName
 mod NameParts

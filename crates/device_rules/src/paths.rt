@@ -1,5 +1,5 @@
 //! What is decided about paths without a system call.
-ghost use Rattle.std.specs.Prelude.{◌≡◌, ◌↔◌, ◌++◌, ◌⊎◌, ◌≢◌, ◌∷◌, [], codes, IfSome, IsTrue};
+ghost use Rattle.std.specs.Prelude.{◌≡◌, ◌↔◌, ◌++◌, ◌⊎◌, ◌≢◌, ◌∷◌, [], codes, false, List, ℕ, IsTrue, MatchOption};
 ghost use Rattle.std.specs.List.{list_any, slice_split};
 ghost use Rattle.lib_types.specs.Bytes.{is_byte};
 ghost use Rattle.device_rules.specs.Paths.{ends_part, has_up, is_at_or_above, leads_up};
@@ -20,8 +20,9 @@ fn ends_part(rest: &[u8]) -> bool
 }
 
 /// The rest of a text after this prefix, if the text has it.
+#[tactic(auto, using(crate::proofs::NameParts::stripped))]
 pub fn following<'a>(text: &'a str, front: &str) -> Option<&'a str>
-    ensures { IfSome result (λ rest. text.now ≡ front.now ++ rest.now) }
+    ensures { MatchOption result ((rest : List ℕ) → text.now ≢ front.now ++ rest) (λ rest. text.now ≡ front.now ++ rest.now) }
 {
     text.strip_prefix(front)
 }
@@ -54,7 +55,8 @@ pub fn has_up(path: &[u8]) -> bool
 
 /// A path's directory, which is empty for the root, and its last name.
 pub fn divided(path: &str) -> (&str, &str)
-    ensures { (path.now ≡ result.0.now ++ 47 ∷ result.1.now) ⊎ ((result.0.now ≡ []) × (result.1.now ≡ path.now)) }
+    ensures parts { (path.now ≡ result.0.now ++ 47 ∷ result.1.now) ⊎ ((result.0.now ≡ []) × (result.1.now ≡ path.now)) }
+    ensures last { list_any (is_byte 47) result.1.now ≡ false }
 {
     match path.rsplit_once('/') {
         Some((folder, name)) => (folder, name),

@@ -1,8 +1,9 @@
 //! The names of temporary files.
-ghost use Rattle.std.specs.Prelude.{◌≡◌, ◌+◌, ◌%◌, ◌^◌, ◌++◌, ◌∷◌, IfOk, IfSome, string_bytes};
+ghost use Rattle.std.specs.Prelude.{◌≡◌, ◌&&◌, ◌+◌, ◌%◌, ◌^◌, ◌++◌, ◌<◌, length, IfOk, IfSome, MatchOption, List, ℕ, None, false, string_bytes};
 ghost use Rattle.std.specs.Char.{is_ascii_digit};
 ghost use Rattle.std.specs.Fmt.{decimal};
-ghost use Rattle.std.specs.List.{list_all};
+ghost use Rattle.std.specs.List.{after_first, before_first, list_all, position_or_len};
+ghost use Rattle.lib_types.specs.Bytes.{is_byte};
 ghost use Rattle.device_rules.specs.Temporary.{IsMadeBy, is_number, temporary_name};
 
 use crate::paths::following;
@@ -52,13 +53,14 @@ pub fn temporary_path<R: Runtime>(
 
 /// The process that made a file of this name, if it is a temporary file of the slot's file.
 pub fn maker_of<'a>(name: &'a str, file: &str) -> Option<&'a str>
-    ensures { IfSome result (λ process. IsMadeBy file.now process.now name.now) }
+    ensures made { IfSome result (λ process. IsMadeBy file.now process.now name.now) }
+    ensures none { result ≡ None → (process : List ℕ) → IsMadeBy file.now process name.now → ⊥ }
 {
     let tail = following(name, file)?;
     let numbers = following(tail, ".tmp")?;
     let (tag, rest) = at_dot(numbers)?;
     let (process, random) = at_dot(rest)?;
-    if is_number(tag) && is_number(process) && is_number(random) {
+    if are_numbers(tag, process, random) {
         Some(process)
     } else {
         None
@@ -66,10 +68,17 @@ pub fn maker_of<'a>(name: &'a str, file: &str) -> Option<&'a str>
 }
 
 // The parts before and after the first dot.
+#[tactic(auto, using(crate::proofs::NameParts::at_first))]
 fn at_dot(text: &str) -> Option<(&str, &str)>
-    ensures { IfSome result (λ parts. text.now ≡ parts.0.now ++ 46 ∷ parts.1.now) }
+    ensures { MatchOption result (position_or_len (is_byte 46) text.now ≡ length text.now) (λ parts. (parts.0.now ≡ before_first (is_byte 46) text.now) × (parts.1.now ≡ after_first (is_byte 46) text.now) × (position_or_len (is_byte 46) text.now < length text.now)) }
 {
     text.split_once('.')
+}
+
+fn are_numbers(tag: &str, process: &str, random: &str) -> bool
+    ensures { result ≡ (is_number tag.now && is_number process.now && is_number random.now) }
+{
+    is_number(tag) && is_number(process) && is_number(random)
 }
 
 // Whether the text is a decimal number.

@@ -1,14 +1,13 @@
 //! The commands that only read a directory: `print`, `lookup` and `resolve` with `-r ROOT`.
-use crate::StartFault;
-use crate::advice::BAD_PROGRAM;
 use crate::print::{note_asked, print_in_root};
-use crate::root_notes::note_fault;
 use asking_runs::run_lookup;
 use command_runs::Status;
-use commands::{Command, Lookup, Resolve};
+use command_words::{Command, Form, Lookup, Resolve};
 use device_rules::{RunId, SlotPaths};
+use diagnostics::{BAD_PROGRAM, LIST_LACKS, StartFault, is_part_of_list};
 use image_folder::HeldFile;
 use root_asking::resolve_root;
+use root_jobs::note_fault;
 use root_real::RootFolder;
 use standard_streams::{Streams, write_text};
 use std::io;
@@ -59,6 +58,7 @@ fn resolve<R: Runtime + AllocGlobal + Streams>(
 where
     R::File: HeldFile,
 {
+    let form = asked.form;
     let mut folder = RootFolder::new(rt.clone()?, root, id)?;
     let mut store = FolderStore::new(rt.clone()?, root)?;
     let mut disk = FolderDisk::new(rt.clone()?, root, id, SlotPaths::usual(), None)?;
@@ -71,7 +71,7 @@ where
         &mut disk,
         &mut output,
     );
-    let _ = note_resolved(rt, root, disk.cache_file(), status);
+    let _ = note_resolved(rt, root, disk.cache_file(), form, status);
     Ok(status.code())
 }
 
@@ -82,8 +82,12 @@ fn note_resolved<R: Runtime + Streams>(
     rt: &R,
     root: &str,
     cache: &str,
+    form: Form,
     status: Status,
 ) -> io::Result<()> {
+    if form != Form::Listing && is_part_of_list(status) {
+        return write_text(rt, LIST_LACKS);
+    }
     match status {
         Status::NoProgram => write_text(rt, NO_PROGRAM),
         Status::BadProgram(_) => write_text(rt, BAD_PROGRAM),

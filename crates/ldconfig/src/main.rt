@@ -1,105 +1,34 @@
 //! `ldconfig` for images: keeps the loader's cache of a directory that has a manifest.
 #![tactic(auto)]
 
-mod advice;
 mod asking;
-mod aux;
-mod conf_lines;
-mod job;
-mod name_notes;
-mod notes;
-mod paths;
 mod print;
 mod root;
-mod root_notes;
-mod unsearched;
 mod update;
 
-ghost use Rattle.std.specs.Prelude.{◌≡◌};
-ghost use Rattle.ldconfig.specs.Start.{code_of};
-
-use advice::{EDITS_NOT_WRITTEN, USAGE, advice, usage_of, written_before};
 use asking::run_asking;
 use command_runs::Status;
-use command_words::help_of;
-use commands::{Command, Devices};
+use command_words::{Command, Form, help_of};
 use device_rules::{RunId, SlotPaths};
+use diagnostics::{
+    EDITS_NOT_WRITTEN, LIST_LACKS, StartFault, USAGE, advice, is_part_of_list, note_long_script,
+    note_manifest, note_names, note_script, note_size, note_update, usage_of, written_before,
+};
 use image_folder::HeldFile;
 use ldconfig_cli::{Arguments, run_on};
-use lib_types::NoMemory;
-use name_notes::note_names;
-use notes::{note_long_script, note_manifest, note_script, note_size, note_update};
-use print::{print_text, word_of};
+use print::print_text;
 use root::run_root;
+use root_jobs::word_of;
 use root_words::is_root_command;
 use standard_streams::{OUT_OF_MEMORY, Streams, or_out_of_memory, write_error_line, write_text};
-use std::alloc::{AllocError, AllocFailed};
+use std::alloc::AllocError;
 use std::io::{Error, ErrorKind};
 use std::process::ExitCode;
 use std::random::RandomSource;
 use std::rt::Runtime;
 use std::{env, io, process};
+use tree_face::Devices;
 use tree_real::{FolderDisk, FolderStore, StdinSource, StdoutSink};
-
-/// Why no command was run.
-#[derive(Clone, Copy, Debug, PartialEq, Eq)]
-enum StartFault {
-    NoMemory,
-    /// The arguments or a random number can't be read: an argument isn't UTF-8 text, for example.
-    Other,
-}
-
-impl StartFault {
-    // The exit status for out of memory, or one that no command ends with.
-    fn code(self) -> u8
-        ensures { result ≡ code_of self }
-    {
-        match self {
-            StartFault::NoMemory => Status::NoMemory.code(),
-            StartFault::Other => 20,
-        }
-    }
-}
-
-impl From<NoMemory> for StartFault {
-    ghost use Rattle.ldconfig.specs.declared.StartFault.TheVariants as start_fault;
-
-    ghost from_gives = { λ _ fault. fault ≡ start_fault.NoMemory };
-
-    fn from(_: NoMemory) -> Self {
-        StartFault::NoMemory
-    }
-}
-
-impl From<AllocError> for StartFault {
-    ghost use Rattle.ldconfig.specs.declared.StartFault.TheVariants as start_fault;
-
-    ghost from_gives = { λ _ fault. fault ≡ start_fault.NoMemory };
-
-    fn from(_: AllocError) -> Self {
-        StartFault::NoMemory
-    }
-}
-
-impl<T: Drop> From<AllocFailed<T>> for StartFault {
-    ghost use Rattle.ldconfig.specs.declared.StartFault.TheVariants as start_fault;
-
-    ghost from_gives = { λ _ fault. fault ≡ start_fault.NoMemory };
-
-    fn from(_: AllocFailed<T>) -> Self {
-        StartFault::NoMemory
-    }
-}
-
-impl From<io::Error> for StartFault {
-    fn from(error: io::Error) -> Self {
-        if error.kind() == io::ErrorKind::OutOfMemory {
-            StartFault::NoMemory
-        } else {
-            StartFault::Other
-        }
-    }
-}
 
 // Why no command was run. The error and its subject are written on the error output. `main` reports out of memory.
 fn fault_of<R: Runtime + Streams>(rt: &R, name: &str, error: io::Error) -> StartFault {
@@ -247,6 +176,7 @@ where
     let mut disk = disk_of(rt, id, arguments.command())?;
     let mut input = StdinSource::new(rt.clone()?);
     let mut output = StdoutSink::new(rt.clone()?);
+    let is_list = is_list(arguments.command());
     let devices = Devices {
         store: &mut store,
         disk: &mut disk,
@@ -255,8 +185,20 @@ where
     };
     let status = run_on(rt.alloc(), arguments, devices);
     // If a line can't be written, nothing changes.
-    let _ = or_out_of_memory(rt, explain(rt, status, &store, &mut disk, &input));
+    let _ = if is_list && is_part_of_list(status) {
+        write_text(rt, LIST_LACKS)
+    } else {
+        or_out_of_memory(rt, explain(rt, status, &store, &mut disk, &input))
+    };
     Ok(status.code())
+}
+
+// Whether the command writes a list of files.
+fn is_list(command: Option<&Command>) -> bool {
+    match command {
+        Some(Command::Resolve(asked)) => asked.form != Form::Listing,
+        _ => false,
+    }
 }
 
 // The files of the image in the working directory. A command that writes them works under the lock on that directory.

@@ -1,22 +1,15 @@
 //! Commands that only print: the usage text, the version, and a cache.
-use crate::StartFault;
-use crate::advice::USAGE;
-use crate::paths::{directory_of, real_path};
 use asking_runs::run_print_named;
 use command_runs::Status;
 use device_rules::{RunId, SlotPaths, divided};
+use diagnostics::{StartFault, USAGE};
 use image_folder::HeldFile;
+use root_jobs::{directory_of, real_path};
 use standard_streams::{OUT_OF_MEMORY, Streams, printable, write_text};
 use std::io;
 use std::rt::Runtime;
-use std::str::from_utf8;
 use tree_face::put_all;
 use tree_real::{FolderDisk, StdoutSink};
-
-/// The text of an argument. All arguments are UTF-8.
-pub fn word_of(bytes: &[u8]) -> &str {
-    from_utf8(bytes).unwrap_or(".")
-}
 
 /// Writes a text to the output, and returns the exit status.
 pub fn print_text<R: Runtime + Streams>(rt: &R, text: &str) -> Result<u8, StartFault> {

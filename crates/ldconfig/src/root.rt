@@ -1,19 +1,14 @@
 //! `ldconfig -r ROOT` and `ldconfig -n DIR..`: updates of directories that have no manifest.
 ghost use Rattle.std.specs.Prelude.{◌≡◌, ◌↔◌, ◌⊎◌, IsTrue, true};
 
-use crate::StartFault;
-use crate::advice::VERSION;
-use crate::aux::{Aux, Kept, note_no_aux};
-use crate::job::{Target, job_of, text_of};
-use crate::print::{
-    no_cache_path, paths_of, print_file, print_in_root, print_text, print_usage, word_of,
-};
-use crate::root_notes::note_rejection;
+use crate::print::{no_cache_path, paths_of, print_file, print_in_root, print_text, print_usage};
 use crate::update::run_job;
 use command_runs::Status;
 use device_rules::{RunId, SlotPaths};
+use diagnostics::{StartFault, VERSION};
 use image_folder::HeldFile;
 use lib_types::Texts;
+use root_jobs::{Aux, Kept, Target, job_of, note_no_aux, note_rejection, text_of, word_of};
 use root_words::{RootCommand, RootOptions, RootWordsFault, command_of};
 use standard_streams::{Streams, or_out_of_memory};
 use std::rt::Runtime;

@@ -1,14 +1,12 @@
 //! One update of a directory, or a check of what it would change.
-use crate::StartFault;
-use crate::aux::note_no_aux;
-use crate::job::Job;
-use crate::root_notes::{note_fault, note_report, note_root};
 use command_runs::Status;
 use device_rules::{RunId, SlotPaths};
+use diagnostics::StartFault;
 use image_folder::{DirLock, HeldFile, ImageFolder, LockFault};
 use ldconfig_core::Looked;
 use lib_types::NoMemory;
 use link_plan::Plan;
+use root_jobs::{Job, note_fault, note_no_aux, note_report, note_root};
 use root_real::RootFolder;
 use root_update::{RootChanges, RootFault, check_root, status_of, status_of_changes, update_root};
 use search_listing::{listing, planned_lines};

@@ -1,8 +1,8 @@
 -- The command that the arguments name is the one that runs.
 use Rattle.std.proofs.Common.{◌≡◌, Option, Some, None, subst, sym}
-use Rattle.commands.specs.declared.kinds.Command.{Command}
+use Rattle.command_words.specs.declared.kinds.Command.{Command}
 use Rattle.command_runs.specs.Commands.{RunsCommand}
-use Rattle.commands.specs.Devices.{DeviceStates}
+use Rattle.tree_face.specs.Devices.{DeviceStates}
 use Rattle.command_status.specs.declared.status.Status.{Status}
 use Rattle.command_status.specs.declared.status.Status.TheVariants.{Usage}
 use Rattle.ldconfig_cli.specs.Runs.{RunsAny, RunsArguments}

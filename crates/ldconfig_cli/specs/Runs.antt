@@ -5,10 +5,10 @@ use Rattle.std.specs.String.{string_bytes}
 use Rattle.command_runs.specs.Commands.{RunsCommand}
 use Rattle.command_status.specs.declared.status.Status.{Status}
 use Rattle.command_status.specs.declared.status.Status.TheVariants.{NoMemory, Usage}
-use Rattle.commands.specs.Devices.{DeviceStates, states}
+use Rattle.tree_face.specs.Devices.{DeviceStates, states}
 use Rattle.command_words.specs.Language.{verb_in}
 use Rattle.command_words.specs.Words.{command_in}
-use Rattle.commands.specs.declared.kinds.Command.{Command}
+use Rattle.command_words.specs.declared.kinds.Command.{Command}
 use Rattle.tree_face.specs.Disk.{DiskState}
 use Rattle.tree_face.specs.Store.{StoreState}
 use Rattle.tree_face.specs.Stream.{SinkState, SourceState}

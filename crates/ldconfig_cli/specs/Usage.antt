@@ -1,6 +1,6 @@
 -- Arguments that are not a command.
 use Rattle.std.specs.Prelude.{◌≡◌}
-use Rattle.commands.specs.Devices.{DeviceStates}
+use Rattle.tree_face.specs.Devices.{DeviceStates}
 use Rattle.command_status.specs.Status.{EndsWith}
 use Rattle.command_status.specs.declared.status.Status.{Status}
 use Rattle.command_status.specs.declared.status.Status.TheVariants.{Usage}

@@ -4,8 +4,7 @@ ghost use Rattle.command_words.specs.Language.{verb_in};
 ghost use Rattle.command_words.specs.Words.{command_in, root_in};
 ghost use Rattle.ldconfig_cli.specs.Runs.{texts_of};
 
-use command_words::{CommandLine, WordsFault, line_of};
-use commands::Command;
+use command_words::{Command, CommandLine, WordsFault, line_of};
 use lib_types::NoMemory;
 use std::alloc::Global;
 use std::marker::Model;

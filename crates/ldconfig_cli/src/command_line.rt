@@ -1,15 +1,15 @@
 //! The top call.
 ghost use Rattle.std.specs.Prelude.{◌≡◌};
 ghost use Rattle.command_words.specs.Words.{command_in};
-ghost use Rattle.commands.specs.Devices.{states, states_in, states_left};
+ghost use Rattle.tree_face.specs.Devices.{states, states_in, states_left};
 ghost use Rattle.ldconfig_cli.specs.Laws.{UpdateLaws};
 ghost use Rattle.ldconfig_cli.specs.Runs.{Runs, RunsArguments};
 
 use crate::arguments::Arguments;
 use command_runs::{Status, refuse_arguments, run_command};
-use commands::{Command, Devices};
+use command_words::Command;
 use std::alloc::Global;
-use tree_face::{Disk, Sink, Source, Store};
+use tree_face::{Devices, Disk, Sink, Source, Store};
 
 // Runs a command, or rejects arguments that are not a command.
 fn run_or_refuse<S: Store, D: Disk, I: Source, O: Sink>(

@@ -23,15 +23,16 @@ use Rattle.ldd_resolve.proofs.MatchesKept.{among_at, and_false, and_true, called
 
 module _ (env : Env) (r r2 : Record) (s new : Loading) (n : ℕ) (q : Request) (rest : List Request) (matching : Matches env r s n (q ∷ rest)) (next : r2.answered ≡ suc r.answered) where
   -- the name isn't found
-  pub missing_matches : r2.objects ≡ r.objects → r2.items ≡ with_missing q.name r.items → new.loaders ≡ s.loaders → new.places ≡ s.places → new.names ≡ s.names →
+  pub missing_matches : r2.objects ≡ r.objects → r2.items ≡ with_missing q.name r.items → r2.found ≡ r.found → new.found ≡ s.found → new.loaders ≡ s.loaders → new.places ≡ s.places → new.names ≡ s.names →
       new.members.items ≡ s.members.items → new.pending.items ≡ s.pending.items → ((x : List ℕ) → is_among new.missing x ≡ (is_among s.missing x || bytes_eq x q.name)) →
       new.items ≡ cond (is_among s.missing q.name) s.items (s.items ++ item q.name None ∷ []) → Matches env r2 new n rest
-  missing_matches objects items links places names members pending missing listed = record {
+  missing_matches objects items found kept links places names members pending missing listed = record {
     linked = rw (links, objects) matching.linked;
     places = rw (places, objects) matching.places;
     names = λ x. rw (names, objects) (matching.names x);
     missing = λ x. missing x ∙ ap (λ b. b || bytes_eq x q.name) (matching.missing x) ∙ sym (ap (list_any (is_missing x)) items ∙ missing_more x);
     items = listed ∙ ap (λ b. cond b s.items (s.items ++ item q.name None ∷ [])) (matching.missing q.name) ∙ rw matching.items (sym items);
+    found = kept ∙ matching.found ∙ sym found;
     members = members ∙ matching.members ∙ sym (ap members_of objects);
     loaded = ap (λ l. map (λ (o : Loaded). o.path) (drop 1 l)) objects ∙ matching.loaded ∙ sym (ap (filter_map (λ i. i.path)) items ∙ paths_same (list_any (is_missing q.name) r.items));
     pending = pending ∙ rw objects matching.pending;
@@ -56,8 +57,8 @@ module _ (env : Env) (r r2 : Record) (s new : Loading) (n : ℕ) (q : Request) (
           ∙ ap (λ b. list_any (is_missing x) r.items || b) (or_false (bytes_eq x q.name && true) ∙ and_true (bytes_eq x q.name)))
 
   -- the file is already loaded
-  pub loaded_matches : (number : ℕ) → IsFoundIn r q number r2 → IsDistinct bytes_eq s.places.loaded → is_among s.names q.name ≡ false → AddsName s new q.name number → Matches env r2 new n rest
-  loaded_matches number found distinct unknown adds =
+  pub loaded_matches : (number : ℕ) (path : List ℕ) → IsFoundIn r q number path r2 → IsDistinct bytes_eq s.places.loaded → is_among s.names q.name ≡ false → AddsName s new q.name path number → Matches env r2 new n rest
+  loaded_matches number path found distinct unknown adds =
       let real = get_or (places_of r.objects) number [] in
       let also = named real q.name in
       let len : length (places_of r.objects) ≡ length r.objects = length-map r.objects (λ (o : Loaded). o.real) in
@@ -68,6 +69,7 @@ module _ (env : Env) (r r2 : Record) (s new : Loading) (n : ℕ) (q : Request) (
         names = λ x. adds.names x ∙ ap (λ b. b || bytes_eq x q.name) (matching.names x) ∙ sym (ap (list_any (is_called x)) found.objects ∙ called_there real q.name r.objects x (among_at (places_of r.objects) number found.within));
         missing = λ x. rw (adds.missing, found.items) (matching.missing x);
         items = adds.items ∙ matching.items ∙ sym found.items;
+        found = adds.found ∙ ap (λ l. l ++ path ∷ []) matching.found ∙ sym found.found;
         members = (let d : Member = record { path = []; real = []; names = [] } in
             adds.members d
             ∙ ap (λ l. set l number (with_last_name (get_or l number d) q.name)) matching.members
@@ -91,9 +93,9 @@ module _ (env : Env) (r r2 : Record) (s new : Loading) (n : ℕ) (q : Request) (
     abbrev o : Loaded
     o = loaded path f.real d (Some q.name) q.chain
 
-    pub found_matches : r2.objects ≡ r.objects ++ o ∷ [] → r2.items ≡ r.items ++ item q.name (Some path) ∷ [] → q.chain ≡ following (map (λ o. o.chain) r.objects) (Some k) → k < length s.loaders →
+    pub found_matches : r2.objects ≡ r.objects ++ o ∷ [] → r2.items ≡ r.items ++ item q.name (Some path) ∷ [] → r2.found ≡ r.found ++ path ∷ [] → q.chain ≡ following (map (λ o. o.chain) r.objects) (Some k) → k < length s.loaders →
         n ≤ length r.objects → 1 ≤ length r.objects → AddsFound env s new q.name f k → Matches env r2 new n rest
-    found_matches objects items chain within few one adds =
+    found_matches objects items found chain within few one adds =
         let names_more = names_by (soname_in d) (Some q.name) in
         record {
           linked = rw (adds.loaders, objects) (linked_on env s.loaders r.objects o (owner_of path d) k matching.linked within (ap (λ c. owner_of path d ∷ c) chain));
@@ -104,6 +106,7 @@ module _ (env : Env) (r r2 : Record) (s new : Loading) (n : ℕ) (q : Request) (
               ∙ sym (ap (list_any (is_missing x)) items ∙ list_any-append (is_missing x) r.items (item q.name (Some path) ∷ [])
               ∙ ap (λ b. list_any (is_missing x) r.items || b) (or_false (bytes_eq x q.name && false) ∙ and_false (bytes_eq x q.name)) ∙ or_false (list_any (is_missing x) r.items));
           items = adds.listed ∙ ap (λ l. l ++ item q.name (Some path) ∷ []) matching.items ∙ sym items;
+          found = adds.found ∙ ap (λ l. l ++ path ∷ []) matching.found ∙ sym found;
           members = adds.members ∙ ap (λ l. l ++ member_of o ∷ []) matching.members ∙ sym (ap members_of objects ∙ map-append member_of r.objects (o ∷ []));
           loaded = ap (λ l. map (λ (o : Loaded). o.path) (drop 1 l)) objects ∙ ap (map (λ (o : Loaded). o.path)) (drop-append-le 1 r.objects (o ∷ []) one) ∙ map-append (λ (o : Loaded). o.path) (drop 1 r.objects) (o ∷ [])
               ∙ ap (λ l. l ++ path ∷ []) matching.loaded ∙ sym (ap (filter_map (λ (i : Item). i.path)) items ∙ filter_map-append (λ (i : Item). i.path) r.items (item q.name (Some path) ∷ []));

@@ -1,4 +1,4 @@
--- The listings of several programs, one after another.
+-- What several programs load, one after another.
 use Rattle.std.proofs.Common.{◌≡◌, ◌∷◌, [], ◌++◌, ◌≤◌, ℕ, List, length, Option, Some, None, Result, Ok, Err, inr, refl, subst, sym, arith}
 use Rattle.std.proofs.lemmas.List.{append-nil, append_assoc}
 use Rattle.cache_reader.specs.Cache.{CachedEntry}
@@ -10,14 +10,14 @@ use Rattle.rpath_search.specs.declared.kinds.Env.{Env}
 use Rattle.tree_face.proofs.StoreUse.{reads_all}
 use Rattle.tree_face.specs.Store.{Contents, StoreState}
 use Rattle.tree_face.specs.StoreUse.{Complete, Ending, GaveUp}
-use Rattle.ldd_resolve.specs.Each.{AreListed, IsStopped, ListsOne, Step, of_program, outcome_of}
+use Rattle.ldd_resolve.specs.Each.{AreResolved, IsStopped, ResolvesOne, Step, of_program, outcome_of}
 use Rattle.ldd_resolve.specs.Listing.{Record}
 use Rattle.ldd_resolve.specs.Resolving.{BeginsBy, BeginsFor, ReadsListing, object_at, program_at, record_of, resolve_ending}
-use Rattle.ldd_resolve.specs.declared.kinds.Item.{Item}
 use Rattle.ldd_resolve.specs.declared.kinds.ProgramFault.{ProgramFault}
 use Rattle.ldd_resolve.specs.declared.kinds.ProgramFault.TheVariants as programs
-use Rattle.ldd_resolve.specs.declared.kinds.ProgramListing.{ProgramListing}
+use Rattle.ldd_resolve.specs.declared.kinds.ProgramScope.{ProgramScope}
 use Rattle.ldd_resolve.specs.declared.kinds.ResolveFault.TheVariants as faults
+use Rattle.ldd_resolve.specs.declared.kinds.Scope.{Scope}
 use Rattle.std.specs.Result.{result_map_both}
 
 module _ (t : Nodes) (cache : Option (List CachedEntry)) (env : Env) (path : List ℕ) (a b : StoreState) where
@@ -66,37 +66,37 @@ module _ (t : Nodes) (cache : Option (List CachedEntry)) (env : Env) (path : Lis
   gave_up None reads = reads_all _ _ _ _ _ reads
   gave_up (Some held) reads = by_file held (program_at t path) reads
 
-  whole : (known : Option Contents) (listing : Result (List Item) ProgramFault) → ReadsListing known t cache path env (resolve_ending (result_map_both (λ items. items) of_program listing)) a b
+  whole : (known : Option Contents) (scope : Result Scope ProgramFault) → ReadsListing known t cache path env (resolve_ending (result_map_both (λ scope. scope) of_program scope)) a b
       → ReadsListing known t cache path env Complete a b
-  whole known (Ok items) reads = reads
+  whole known (Ok scope) reads = reads
   whole known (Err programs.NoProgram) reads = reads
   whole known (Err (programs.BadProgram d)) reads = reads
 
-  pub no_room : (known : Option Contents) (l : ProgramListing) → ListsOne known t cache env path (outcome_of l) a b → ListsOne known t cache env path (Err faults.NoMemory) a b
+  pub no_room : (known : Option Contents) (l : ProgramScope) → ResolvesOne known t cache env path (outcome_of l) a b → ResolvesOne known t cache env path (Err faults.NoMemory) a b
   no_room known l lists = record {
     is = tt;
     no_program = record { only = λ e. absurd (cc (e)); always = λ e. inr refl };
     bad_program = tt;
-    reads = gave_up known (whole known l.listing lists.reads);
+    reads = gave_up known (whole known l.scope lists.reads);
   }
 
 -- ---- one more program
 
 module _ (lists : Step) (paths rest : List (List ℕ)) (path : List ℕ) (first old next : StoreState) where
-  pub listed_then : (done : List ProgramListing) (l : ProgramListing) → l.path ≡ path → lists path (outcome_of l) old next
-      → ((ls : List ProgramListing) (new : StoreState) → AreListed lists (path ∷ rest) ls old new → AreListed lists paths (done ++ ls) first new)
-      → (ls : List ProgramListing) (new : StoreState) → AreListed lists rest ls next new → AreListed lists paths ((done ++ l ∷ []) ++ ls) first new
+  pub listed_then : (done : List ProgramScope) (l : ProgramScope) → l.path ≡ path → lists path (outcome_of l) old next
+      → ((ls : List ProgramScope) (new : StoreState) → AreResolved lists (path ∷ rest) ls old new → AreResolved lists paths (done ++ ls) first new)
+      → (ls : List ProgramScope) (new : StoreState) → AreResolved lists rest ls next new → AreResolved lists paths ((done ++ l ∷ []) ++ ls) first new
   listed_then done l same one all ls new more =
-      subst (λ (xs : List ProgramListing). AreListed lists paths xs first new) (sym (append_assoc done (l ∷ []) ls)) (all (l ∷ ls) new (next, ((same, one), more)))
+      subst (λ (xs : List ProgramScope). AreResolved lists paths xs first new) (sym (append_assoc done (l ∷ []) ls)) (all (l ∷ ls) new (next, ((same, one), more)))
 
-  pub stopped_then : (l : ProgramListing) → l.path ≡ path → lists path (outcome_of l) old next
+  pub stopped_then : (l : ProgramScope) → l.path ≡ path → lists path (outcome_of l) old next
       → ((fault : SearchFault) (new : StoreState) → IsStopped lists fault (path ∷ rest) old new → IsStopped lists fault paths first new)
       → (fault : SearchFault) (new : StoreState) → IsStopped lists fault rest next new → IsStopped lists fault paths first new
   stopped_then l same one all fault new more = all fault new (inr (next, (l, ((same, one), more))))
 
 -- ---- no more programs
 
-pub at_end : (lists : Step) (paths rest : List (List ℕ)) (first old : StoreState) (done : List ProgramListing) → length rest ≡ 0
-    → ((ls : List ProgramListing) (new : StoreState) → AreListed lists rest ls old new → AreListed lists paths (done ++ ls) first new) → AreListed lists paths done first old
-at_end lists paths [] first old done none all = subst (λ (ls : List ProgramListing). AreListed lists paths ls first old) (append-nil done) (all [] old refl)
+pub at_end : (lists : Step) (paths rest : List (List ℕ)) (first old : StoreState) (done : List ProgramScope) → length rest ≡ 0
+    → ((ls : List ProgramScope) (new : StoreState) → AreResolved lists rest ls old new → AreResolved lists paths (done ++ ls) first new) → AreResolved lists paths done first old
+at_end lists paths [] first old done none all = subst (λ (ls : List ProgramScope). AreResolved lists paths ls first old) (append-nil done) (all [] old refl)
 at_end lists paths (path ∷ rest) first old done none all = absurd (omega (arith, none))

@@ -58,7 +58,7 @@ module _ (w : Inputs) (r : Record) (q : Request) (all : List (List ℕ)) where
 pub sound_answer : (known : Option Contents) (g : Given) (places all : List (List ℕ)) (found : Option Answer) → FindsBy known g places all found → IsNew known g.tree.now g.env.now.abi places found →
     IsSoundAnswer known g.tree.now g.env.now.abi found
 sound_answer known g places all None finds there = tt
-sound_answer known g places all (Some (answer.Loaded i)) finds there = tt
+sound_answer known g places all (Some (answer.Loaded i path)) finds there = tt
 sound_answer known g places all (Some (answer.New f)) finds there = (there.node, by known finds)
   where
     by_path : (held : Contents) (first : Option (List ℕ)) → Finds held g.tree.now g.env.now.abi places first (Some (answer.New f)) →
@@ -80,22 +80,25 @@ paths_same env name (o ∷ more) cached reach same = let is : reach_of env o mor
 -- an answer doesn't depend on the number of answered requests
 counted_outcome : (r r2 : Record) (n : ℕ) (q : Request) (found : Option Answer) → HasOutcome (record r { answered = n }) q found r2 → HasOutcome r q found r2
 counted_outcome r r2 n q None out = out
-counted_outcome r r2 n q (Some (answer.Loaded i)) out = record { within = out.within; objects = out.objects; items = out.items }
+counted_outcome r r2 n q (Some (answer.Loaded i path)) out = record { within = out.within; objects = out.objects; items = out.items; found = out.found }
 counted_outcome r r2 n q (Some (answer.New f)) out = out
 
 -- there is a record for this answer to a request
 some_outcome : (r : Record) (q : Request) (known : Option Contents) (t : Nodes) (abi : Abi) (found : Option Answer) → IsNew known t abi (places_of r.objects) found →
     (r2 : Record) × (HasOutcome r q found r2 × (r2.answered ≡ suc r.answered))
-some_outcome r q known t abi None there = (record r { answered = suc r.answered; items = with_missing q.name r.items }, ((refl, refl), refl))
-some_outcome r q known t abi (Some (answer.Loaded i)) there =
-    (record r { answered = suc r.answered; objects = map (named (get_or (places_of r.objects) i []) q.name) r.objects }, (record { within = there; objects = refl; items = refl }, refl))
+some_outcome r q known t abi None there = (record r { answered = suc r.answered; items = with_missing q.name r.items }, (((refl, refl), refl), refl))
+some_outcome r q known t abi (Some (answer.Loaded i path)) there = (
+  record r { answered = suc r.answered; objects = map (named (get_or (places_of r.objects) i []) q.name) r.objects; found = r.found ++ path ∷ [] },
+  (record { within = there; objects = refl; items = refl; found = refl }, refl),
+)
 some_outcome r q known t abi (Some (answer.New f)) there = (
   record r {
     answered = suc r.answered;
     objects = r.objects ++ loaded f.path f.real f.object.dynamic (Some q.name) q.chain ∷ [];
     items = r.items ++ item q.name (Some f.path) ∷ [];
+    found = r.found ++ f.path ∷ [];
   },
-  ((refl, refl), refl),
+  (((refl, refl), refl), refl),
 )
 
 module _ (g : Given) (r : Record) (s : Loading) (number : ℕ) (chain : List Owner) (name : List ℕ) (rest : List (List ℕ)) (here : IsAt g.env.now r s number chain (name ∷ rest)) where

@@ -23,33 +23,36 @@ module _ (w : Inputs) (r : Record) (q : Request) (all : List (List ℕ)) where
 
   pub outcome : (first : Option (List ℕ)) (a : Option Answer) → first_good w.held w.nodes w.env.abi all ≡ first →
       Finds w.held w.nodes w.env.abi (places_of r.objects) first a → IsNew (Some w.held) w.nodes w.env.abi (places_of r.objects) a → HasOutcome r q a (with_search w r q all)
-  outcome None None same finds new = rw (found_none same) (refl, refl)
+  outcome None None same finds new = rw (found_none same) ((refl, refl), refl)
   outcome None (Some a) same finds new = absurd finds
   outcome (Some path) None same finds new = absurd finds
-  outcome (Some path) (Some (answer.Loaded i)) same finds new =
+  outcome (Some path) (Some (answer.Loaded i answered)) same finds new =
       let real = get_or (places_of r.objects) i [] in
       let there = among_at (places_of r.objects) i finds.within in
       record {
         within = finds.within;
         objects = rw (found_at path real same finds.leads, there) refl;
         items = rw (found_at path real same finds.leads, there) refl;
+        found = rw (found_at path real same finds.leads, there, finds.here) refl;
       }
   outcome (Some path) (Some (answer.New f)) same finds new =
-      let leads : file_at w.nodes path ≡ Some f.real = rw finds.here at new.found.leads in
-      (rw (found_at path f.real same leads, new.unloaded, finds.object, finds.here) refl, rw (found_at path f.real same leads, new.unloaded, finds.here) refl)
+      let leads : file_at w.nodes path ≡ Some f.real = rw finds.here at new.found.leads in (
+        (rw (found_at path f.real same leads, new.unloaded, finds.object, finds.here) refl, rw (found_at path f.real same leads, new.unloaded, finds.here) refl),
+        rw (found_at path f.real same leads, new.unloaded, finds.here) refl,
+      )
 
 -- an existing object keeps its chain
 pub chain_kept : (r r2 : Record) (q : Request) (a : Option Answer) (n : ℕ) → n < length r.objects → HasOutcome r q a r2 →
     following (map (λ o. o.chain) r2.objects) (Some n) ≡ following (map (λ o. o.chain) r.objects) (Some n)
-chain_kept r r2 q None n within outcome = rw outcome.0 refl
-chain_kept r r2 q (Some (answer.Loaded i)) n within outcome =
+chain_kept r r2 q None n within outcome = rw outcome.0.0 refl
+chain_kept r r2 q (Some (answer.Loaded i path)) n within outcome =
     let real = get_or (places_of r.objects) i [] in
     rw (outcome.objects, same_by real q.name (λ o. o.chain) (same_chain real q.name) r.objects) refl
 chain_kept r r2 q (Some (answer.New f)) n within outcome =
     let o : Loaded = loaded f.path f.real f.object.dynamic (Some q.name) q.chain in
     let len : length (map (λ (o : Loaded). o.chain) r.objects) ≡ length r.objects = length-map r.objects (λ (o : Loaded). o.chain) in
     let here : n < length (map (λ (o : Loaded). o.chain) r.objects) = omega (arith, within, len) in
-    rw (outcome.0, map-append (λ (o : Loaded). o.chain) r.objects (o ∷ [])) (get_or_append_left (map (λ (o : Loaded). o.chain) r.objects) (o.chain ∷ []) [] n here)
+    rw (outcome.0.0, map-append (λ (o : Loaded). o.chain) r.objects (o ∷ [])) (get_or_append_left (map (λ (o : Loaded). o.chain) r.objects) (o.chain ∷ []) [] n here)
 
 -- a request for the name of an existing object only changes the number of answered requests
 pub known_matches : (env : Env) (r r2 : Record) (s : Loading) (n : ℕ) (q : Request) (rest : List Request) → Matches env r s n (q ∷ rest) → r2 ≡ record r { answered = r.answered + 1 } → Matches env r2 s n rest
@@ -61,6 +64,7 @@ known_matches env r r2 s n q rest matching same =
       names = matching.names;
       missing = matching.missing;
       items = matching.items;
+      found = matching.found;
       members = matching.members;
       loaded = matching.loaded;
       pending = matching.pending;

@@ -169,7 +169,7 @@ module _ (t : Nodes) (cache : Option (List CachedEntry)) (word : List ℕ) (env 
           }))
 
     pub is_scope : (scope : Scope) (b c : StoreState) (known : Option Contents) → IfKnown known (λ held. object_at held t p.real ≡ Some (Ok p.object)) →
-        Advances known inputs first Complete (λ r. IsListed r scope.members scope.listing) b c → IfKnown known (λ held. IsScope t cache word env held scope)
+        Advances known inputs first Complete (λ r. IsListed r scope) b c → IfKnown known (λ held. IsScope t cache word env held scope)
     is_scope scope b c None says so_far = tt
     is_scope scope b c (Some held) says so_far =
         let same = same_after held so_far.requests in
@@ -180,11 +180,11 @@ module _ (t : Nodes) (cache : Option (List CachedEntry)) (word : List ℕ) (env 
           says = says;
           requests = so_far.requests;
           all = ap left same ∙ so_far.holds.all;
-          holds = subst (IsScopeOf scope) (sym same) (record { members = so_far.holds.members; listing = so_far.holds.listed });
+          holds = subst (IsScopeOf scope) (sym same) (so_far.holds.scope);
         }
 
     -- the members are in the order of the listing's paths, whether or not contents are known
-    pub are_loaded : (scope : Scope) (b c : StoreState) (known : Option Contents) → Advances known inputs first Complete (λ r. IsListed r scope.members scope.listing) b c → AreLoaded scope
+    pub are_loaded : (scope : Scope) (b c : StoreState) (known : Option Contents) → Advances known inputs first Complete (λ r. IsListed r scope) b c → AreLoaded scope
     are_loaded scope b c None so_far = so_far.holds.loaded
     are_loaded scope b c (Some held) so_far = so_far.holds.loaded
 

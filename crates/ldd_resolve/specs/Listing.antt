@@ -98,6 +98,8 @@ pub record Record : Type 0 where
   -- the number of answered requests
   pub answered : ℕ
   pub items : List Item
+  -- each path by which an object was found, the program's first
+  pub found : List (List ℕ)
   -- the keys that were opened
   pub keys : List (List ℕ)
 
@@ -130,13 +132,15 @@ keys_searched held t abi places all =
 abbrev pub dynamic_at : Inputs → List ℕ → Option Dynamic
 dynamic_at w real = option_and_then (λ o. o.dynamic) (library_at w.held w.nodes w.env.abi real)
 
--- If the file is a loaded object, the object gets the name. Otherwise a new object and an item are added.
+-- If the file is a loaded object, the object gets the name. Otherwise a new object and an item are added. In both cases the path is one by
+-- which an object was found.
 abbrev pub with_file : Inputs → Record → Request → List ℕ → List ℕ → Record
 with_file w r q path real =
-    if is_among (places_of r.objects) real then record r { objects = map (named real q.name) r.objects } else
+    if is_among (places_of r.objects) real then record r { objects = map (named real q.name) r.objects; found = r.found ++ path ∷ [] } else
     record r {
       objects = r.objects ++ loaded path real (dynamic_at w real) (Some q.name) q.chain ∷ [];
       items = r.items ++ item q.name (Some path) ∷ [];
+      found = r.found ++ path ∷ [];
     }
 
 -- the record after a search: either nothing was found, or a path and the file to which it leads

@@ -31,6 +31,7 @@ pub record Matches (env : Env) (r : Record) (s : Loading) (taken : ℕ) (rest : 
   pub names : (x : List ℕ) → is_among s.names x ≡ list_any (is_called x) r.objects
   pub missing : (x : List ℕ) → is_among s.missing x ≡ list_any (is_missing x) r.items
   pub items : s.items ≡ r.items
+  pub found : s.found ≡ r.found
   pub members : s.members.items ≡ members_of r.objects
   pub loaded : map (λ o. o.path) (drop 1 r.objects) ≡ filter_map (λ i. i.path) r.items
   pub pending : s.pending.items ≡ map (λ o. o.needed) (drop taken r.objects)
@@ -47,7 +48,7 @@ pub record IsSound (known : Option Contents) (t : Nodes) (abi : Abi) (s : Loadin
 -- an answer that is added to the state is a library and a node of the tree
 abbrev pub IsSoundAnswer : Option Contents → Nodes → Abi → Option Answer → Type 0
 IsSoundAnswer known t abi None = Unit {0}
-IsSoundAnswer known t abi (Some (answer.Loaded i)) = Unit {0}
+IsSoundAnswer known t abi (Some (answer.Loaded i path)) = Unit {0}
 IsSoundAnswer known t abi (Some (answer.New f)) = (is_some (node_at t f.real) ≡ true) × IfKnown known (λ held. is_library_at held t abi f.real ≡ true)
 
 -- objects are added, and each of them is put into the queue
@@ -67,6 +68,7 @@ pub record AddsMember (old new : Loading) (m : Member) (needed : List (List ℕ)
   pub pending : new.pending.items ≡ old.pending.items ++ needed ∷ []
   pub missing : new.missing ≡ old.missing
   pub items : new.items ≡ old.items
+  pub found : new.found ≡ old.found
   pub loaders : new.loaders ≡ old.loaders
 
 -- a library that was found for the object with this number is added, with an item of this name
@@ -78,6 +80,7 @@ pub record AddsFound (env : Env) (old new : Loading) (name : List ℕ) (f : Foun
   pub pending : new.pending.items ≡ old.pending.items ++ needed_in f.object.dynamic ∷ []
   pub missing : new.missing ≡ old.missing
   pub listed : new.items ≡ old.items ++ item name (Some f.path) ∷ []
+  pub found : new.found ≡ old.found ++ f.path ∷ []
 
 -- adds a name at the end
 abbrev pub with_last_name : Member → List ℕ → Member
@@ -87,10 +90,11 @@ with_last_name m name = record m { names = m.names ++ name ∷ [] }
 abbrev pub IsNamedAt : List Member → List Member → ℕ → List ℕ → Type 0
 IsNamedAt before after i name = (d : Member) → after ≡ slice_set before i (with_last_name (slice_index_or before i d) name)
 
--- the object with this number gets one more name
-pub record AddsName (old new : Loading) (name : List ℕ) (number : ℕ) : Type 0 where
+-- the object with this number gets one more name, and was found by this path
+pub record AddsName (old new : Loading) (name path : List ℕ) (number : ℕ) : Type 0 where
   pub names : (x : List ℕ) → is_among new.names x ≡ (is_among old.names x || bytes_eq x name)
   pub members : IsNamedAt old.members.items new.members.items number name
+  pub found : new.found ≡ old.found ++ path ∷ []
   pub loaders : new.loaders ≡ old.loaders
   pub places : new.places ≡ old.places
   pub missing : new.missing ≡ old.missing
@@ -104,23 +108,26 @@ pub record AddsMissing (old new : Loading) (name : List ℕ) : Type 0 where
   pub loaders : new.loaders ≡ old.loaders
   pub places : new.places ≡ old.places
   pub names : new.names ≡ old.names
+  pub found : new.found ≡ old.found
   pub members : new.members.items ≡ old.members.items
   pub pending : new.pending.items ≡ old.pending.items
 
--- the record after a request whose answer is the object with this number
-pub record IsFoundIn (r : Record) (q : Request) (number : ℕ) (r2 : Record) : Type 0 where
+-- the record after a request whose answer is the object with this number, found by this path
+pub record IsFoundIn (r : Record) (q : Request) (number : ℕ) (path : List ℕ) (r2 : Record) : Type 0 where
   pub within : number < length (places_of r.objects)
   pub objects : r2.objects ≡ map (named (slice_index_or (places_of r.objects) number []) q.name) r.objects
   pub items : r2.items ≡ r.items
+  pub found : r2.found ≡ r.found ++ path ∷ []
 
 -- the record after a request with this answer
 
 abbrev pub HasOutcome : Record → Request → Option Answer → Record → Type 0
-HasOutcome r q None r2 = (r2.objects ≡ r.objects) × (r2.items ≡ with_missing q.name r.items)
-HasOutcome r q (Some (answer.Loaded i)) r2 = IsFoundIn r q i r2
+HasOutcome r q None r2 = ((r2.objects ≡ r.objects) × (r2.items ≡ with_missing q.name r.items)) × (r2.found ≡ r.found)
+HasOutcome r q (Some (answer.Loaded i path)) r2 = IsFoundIn r q i path r2
 HasOutcome r q (Some (answer.New f)) r2 =
-    (r2.objects ≡ r.objects ++ loaded f.path f.real f.object.dynamic (Some q.name) q.chain ∷ [])
-    × (r2.items ≡ r.items ++ item q.name (Some f.path) ∷ [])
+    ((r2.objects ≡ r.objects ++ loaded f.path f.real f.object.dynamic (Some q.name) q.chain ∷ [])
+    × (r2.items ≡ r.items ++ item q.name (Some f.path) ∷ []))
+    × (r2.found ≡ r.found ++ f.path ∷ [])
 
 -- If the old state matches a record, the new state matches the next record. That one has this answer to one more request, which the
 -- object with this number makes for this name.

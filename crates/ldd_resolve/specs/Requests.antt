@@ -1,6 +1,5 @@
 -- How the code answers the requests of a listing.
 use Rattle.std.specs.Prelude.{◌≡◌, ℕ, ◌+◌, suc, List, [], ◌∷◌, drop, length, map, if◌then◌else◌, true, Option, Some, None, is_some, Result, Ok, IfOk}
-use Rattle.std.specs.List.{filter_map}
 use Rattle.std.specs.Option.{option_copied}
 use Rattle.tree_face.specs.Known.{IfKnown}
 use Rattle.tree_face.specs.Store.{Contents, StoreState}
@@ -15,8 +14,6 @@ use Rattle.rpath_search.specs.declared.fault.SearchFault.{SearchFault}
 use Rattle.rpath_search.specs.declared.kinds.Env.{Env}
 use Rattle.rpath_search.specs.declared.kinds.Found.{Found}
 use Rattle.rpath_search.specs.declared.kinds.Owner.{Owner}
-use Rattle.ldd_resolve.specs.declared.kinds.Item.{Item}
-use Rattle.ldd_resolve.specs.declared.kinds.Member.{Member}
 use Rattle.ldd_resolve.specs.declared.kinds.Scope.{Scope}
 use Rattle.ldd_resolve.specs.declared.loading.Loading.{Loading}
 use Rattle.ldd_resolve.specs.declared.requests.Given.{Given}
@@ -25,7 +22,7 @@ use Rattle.rpath_search.specs.declared.search.LoadedFiles.{LoadedFiles}
 use Rattle.ldd_resolve.specs.Links.{following}
 use Rattle.ldd_resolve.specs.Listing.{Inputs, Record, Request, keys_searched, left, loaded}
 use Rattle.ldd_resolve.specs.Loading.{Advances, IsSound, Matches}
-use Rattle.ldd_resolve.specs.Resolving.{IfComplete, cached_in, inputs_of, members_of, object_at}
+use Rattle.ldd_resolve.specs.Resolving.{AreLoaded, IfComplete, IsScopeOf, cached_in, inputs_of, object_at}
 use Rattle.rpath_search.specs.Searching.{AreKnown, Finds}
 use Rattle.ldd_resolve.specs.Searching.{Begins}
 
@@ -76,16 +73,19 @@ abbrev pub AnswersObjects : Option Contents → Given → ℕ → ℕ → Ending
 AnswersObjects known g number next ending s s2 old new =
     (r : Record) → Matches g.env.now r s number [] → Advances known (inputs_by g) r ending (λ r2. IfComplete ending (Matches g.env.now r2 s2 next [])) old new
 
--- no request remains in the record, and these are its members and items
-pub record IsListed (r : Record) (ms : List Member) (items : List Item) : Type 0 where
+-- no request remains in the record, and this is its scope
+pub record IsListed (r : Record) (s : Scope) : Type 0 where
   pub all : left r ≡ []
-  pub members : ms ≡ members_of r.objects
-  pub listed : items ≡ r.items
-  pub loaded : map (λ m. m.path) (drop 1 ms) ≡ filter_map (λ i. i.path) items
+  pub scope : IsScopeOf s r
+  pub loaded : AreLoaded s
+
+-- the scope in the state
+abbrev pub scope_in : Loading → Scope
+scope_in s = record { members = s.members.items; listing = s.items; found = s.found }
 
 abbrev pub AnswersAll : Option Contents → Given → Ending → Loading → Loading → StoreState → StoreState → Type 0
 AnswersAll known g ending s s2 old new =
-    (r : Record) → Matches g.env.now r s 0 [] → Advances known (inputs_by g) r ending (λ r2. IfComplete ending (IsListed r2 s2.members.items s2.items)) old new
+    (r : Record) → Matches g.env.now r s 0 [] → Advances known (inputs_by g) r ending (λ r2. IfComplete ending (IsListed r2 (scope_in s2))) old new
 
 -- ---- growth of the state
 
@@ -98,7 +98,7 @@ pub record IsEven (s : Loading) (taken : ℕ) : Type 0 where
 
 -- the record of only the program
 abbrev pub record_with : Found → List (List ℕ) → Record
-record_with p keys = record { objects = loaded p.path p.real p.object.dynamic None [] ∷ []; answered = 0; items = []; keys = keys }
+record_with p keys = record { objects = loaded p.path p.real p.object.dynamic None [] ∷ []; answered = 0; items = []; found = p.path ∷ []; keys = keys }
 
 -- the program's file, if it isn't a library
 abbrev pub outsider_of : Found → Option (List ℕ)
@@ -111,7 +111,7 @@ abbrev pub StartsSound : Found → Loading → Type 0
 StartsSound p s = (known : Option Contents) (t : Nodes) → is_some (node_at t p.real) ≡ true
     → IfKnown known (λ held. object_at held t p.real ≡ Some (Ok p.object)) → IsSound known t p.object.abi s
 
--- From the record of only the program, the call answers all requests and returns the members and items.
+-- From the record of only the program, the call answers all requests and returns the scope.
 abbrev pub Lists : Option Contents → Nodes → Option (List CachedEntry) → Env → Found → Result Scope SearchFault → StoreState → StoreState → Type 0
 Lists known t cache env p result old new = (keys : List (List ℕ))
-    → Advances known (inputs_of t cache (env_for env p.object.abi)) (record_with p keys) (search_ending result) (λ r2. IfOk result (λ s. IsListed r2 s.members s.listing)) old new
+    → Advances known (inputs_of t cache (env_for env p.object.abi)) (record_with p keys) (search_ending result) (λ r2. IfOk result (IsListed r2)) old new

@@ -1,4 +1,4 @@
--- The listing of a program, and the files that are opened for it (ldd(1), ld.so(8)).
+-- What a program loads, and the files that are opened for it (ldd(1), ld.so(8)).
 use Rattle.std.specs.Prelude.{◌≡◌, ◌⊎◌, ◌++◌, ℕ, false, List, [], ◌∷◌, drop, map, Option, Some, None, option_map, option_and_then, Result, Ok, Err}
 use Rattle.std.specs.List.{filter_map}
 use Rattle.lib_types.specs.declared.analysis.Defect.{Defect}
@@ -49,7 +49,13 @@ inputs_of t cache env held = record { held = held; nodes = t; cached = cached_in
 -- only the program, with its file opened
 abbrev pub first_record : Nodes → List ℕ → List ℕ → Object → Record
 first_record t word real o =
-    record { objects = loaded (from_root word) real o.dynamic None [] ∷ []; answered = 0; items = []; keys = file_keys t (real ∷ []) }
+    record {
+      objects = loaded (from_root word) real o.dynamic None [] ∷ [];
+      answered = 0;
+      items = [];
+      found = from_root word ∷ [];
+      keys = file_keys t (real ∷ []);
+    }
 
 -- the record of a program after n answered requests, with the program's ABI
 abbrev pub record_of : Nodes → Option (List CachedEntry) → List ℕ → Env → Contents → List ℕ → Object → ℕ → Record
@@ -65,10 +71,6 @@ pub record EndsIn (t : Nodes) (cache : Option (List CachedEntry)) (word : List �
   pub all : left (record_of t cache word env held real object requests) ≡ []
   pub holds : P (record_of t cache word env held real object requests)
 
--- the items are the listing
-abbrev pub IsListing : Nodes → Option (List CachedEntry) → List ℕ → Env → Contents → List Item → Type 0
-IsListing t cache word env held items = EndsIn t cache word env held (λ r. items ≡ r.items)
-
 -- ---- the scope
 
 abbrev pub member_of : Loaded → Member
@@ -78,10 +80,11 @@ member_of o = record { path = o.path; real = o.real; names = o.names }
 abbrev pub members_of : List Loaded → List Member
 members_of objects = map member_of objects
 
--- the members and the items of this record
+-- the members, the items and the paths of this record
 pub record IsScopeOf (scope : Scope) (r : Record) : Type 0 where
   pub members : scope.members ≡ members_of r.objects
   pub listing : scope.listing ≡ r.items
+  pub found : scope.found ≡ r.found
 
 abbrev pub IsScope : Nodes → Option (List CachedEntry) → List ℕ → Env → Contents → Scope → Type 0
 IsScope t cache word env held scope = EndsIn t cache word env held (IsScopeOf scope)
@@ -129,7 +132,7 @@ BeginsNoneLacking held old new = Relates (AreAllHeld held) old.keys new.keys
 -- ---- the ending of a call
 
 abbrev pub resolve_ending : {A : Type 0} → Result A ResolveFault → Ending
-resolve_ending (Ok listing) = Complete
+resolve_ending (Ok scope) = Complete
 resolve_ending (Err NoProgram) = Complete
 resolve_ending (Err (BadProgram d)) = Complete
 resolve_ending (Err StoreFault) = DeviceFailed
@@ -137,7 +140,7 @@ resolve_ending (Err NoMemory) = GaveUp
 
 -- a fact about the defect that is returned
 abbrev pub IfBadProgram : {A : Type 0} → Result A ResolveFault → (Defect → Type 0) → Type 0
-IfBadProgram (Ok listing) P = Unit {0}
+IfBadProgram (Ok scope) P = Unit {0}
 IfBadProgram (Err NoProgram) P = Unit {0}
 IfBadProgram (Err (BadProgram d)) P = P d
 IfBadProgram (Err StoreFault) P = Unit {0}

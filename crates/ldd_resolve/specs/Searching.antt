@@ -9,7 +9,7 @@ use Rattle.rpath_search.specs.declared.search.Answer.TheVariants as answer
 
 abbrev pub IsUnloaded : List (List ℕ) → Option Answer → Type 0
 IsUnloaded places None = Unit {0}
-IsUnloaded places (Some (answer.Loaded i)) = i < length places
+IsUnloaded places (Some (answer.Loaded i path)) = i < length places
 IsUnloaded places (Some (answer.New f)) = is_among places f.real ≡ false
 
 pub record BeginsHeld (held : Contents) (keys : List (List ℕ)) (ending : Ending) (old new : StoreState) : Type 0 where

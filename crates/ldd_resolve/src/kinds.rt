@@ -38,6 +38,8 @@ pub struct Scope {
     pub members: Members,
     /// The requests that loaded a member and those that weren't found, in order.
     pub listing: Listing,
+    /// Each path by which a member was found, in order, the program's first.
+    pub found: Texts,
 }
 
 /// Why there is no program at a path.
@@ -49,17 +51,17 @@ pub enum ProgramFault {
     BadProgram(Defect),
 }
 
-/// A path with the listing of the program there, or why there is no program.
+/// A path with the objects that the program there loads, or why there is no program.
 #[derive(Drop)]
-pub struct ProgramListing {
+pub struct ProgramScope {
     pub path: Text,
-    pub listing: Result<Listing, ProgramFault>,
+    pub scope: Result<Scope, ProgramFault>,
 }
 
-/// The listings of several programs, in order.
-pub type Listings = Seq<ProgramListing>;
+/// The scopes of several programs, in order.
+pub type ProgramScopes = Seq<ProgramScope>;
 
-/// Why a program has no listing.
+/// Why a program has no scope.
 #[derive(Clone, Copy, Debug, PartialEq, Eq)]
 pub enum ResolveFault {
     /// The program's path leads to no file.

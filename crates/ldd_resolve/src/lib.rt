@@ -11,7 +11,7 @@ mod resolving;
 
 pub use each::resolve_each;
 pub use kinds::{
-    Item, Listing, Listings, Member, Members, ProgramFault, ProgramListing, ResolveFault, Scope,
+    Item, Listing, Member, Members, ProgramFault, ProgramScope, ProgramScopes, ResolveFault, Scope,
 };
 pub use printing::listing_text;
-pub use resolving::{resolve, scope};
+pub use resolving::scope;

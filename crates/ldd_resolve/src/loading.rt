@@ -33,6 +33,8 @@ pub(crate) struct Loading {
     /// In the order of the objects' numbers.
     pub members: Vec<Member>,
     pub items: Listing,
+    /// Each path by which an object was found.
+    pub found: Texts,
     /// The needed names of the objects whose requests aren't answered yet.
     pub pending: VecDeque<Texts>,
 }
@@ -95,6 +97,7 @@ impl Loading {
         ensures missing { result.missing ≡ [] }
         ensures members { result.members.items ≡ [] }
         ensures items { result.items ≡ [] }
+        ensures found { result.found ≡ [] }
         ensures pending { result.pending.items ≡ [] }
     {
         Loading {
@@ -107,6 +110,7 @@ impl Loading {
             missing: TextSet::new(alloc),
             members: Vec::new(alloc),
             items: Listing::new(alloc),
+            found: Texts::new(alloc),
             pending: VecDeque::new(alloc),
         }
     }
@@ -127,6 +131,7 @@ impl Loading {
         let names = names_by(alloc, soname, None)?;
         let loaders = Loaders::new(alloc, env, &owner)?;
         let mut loading = Loading::empty(alloc, loaders, outsider);
+        loading.found.push(Text::copy_of(alloc, path.as_bytes())?)?;
         loading.add_member(alloc, Member { path, real, names }, needed)?;
         Ok(loading)
     }
@@ -166,6 +171,7 @@ impl Loading {
         self.loaders.add(alloc, env, &owner, loader)?;
         let names = names_by(alloc, soname, Some(name.as_bytes()))?;
         let listed = Text::copy_of(alloc, path.as_bytes())?;
+        self.found.push(Text::copy_of(alloc, path.as_bytes())?)?;
         self.add_member(alloc, Member { path, real, names }, needed)?;
         self.items.push(Item {
             name,
@@ -173,11 +179,18 @@ impl Loading {
         })
     }
 
-    // Adds one more name to the object with this number.
-    fn add_name(&mut self, alloc: Global, name: Text, number: usize) -> Result<(), NoMemory>
+    // Adds one more name and one more path to the object with this number.
+    fn add_name(
+        &mut self,
+        alloc: Global,
+        name: Text,
+        path: Text,
+        number: usize,
+    ) -> Result<(), NoMemory>
         requires { number < length self.old.members.items }
-        ensures { OnOk result (AddsName self.old self.new name number) }
+        ensures { OnOk result (AddsName self.old self.new name path number) }
     {
+        self.found.push(path)?;
         self.names.insert(Text::copy_of(alloc, name.as_bytes())?)?;
         add_name_at(&mut self.members, number, name)
     }
@@ -213,7 +226,7 @@ impl Loading {
         ensures grows { OnOk result (Grows self.old self.new) }
     {
         match answer {
-            Some(Answer::Loaded(number)) => self.add_name(alloc, name, number),
+            Some(Answer::Loaded { number, path }) => self.add_name(alloc, name, path, number),
             Some(Answer::New(found)) => self.add_found(alloc, env, name, found, loader),
             None => self.add_missing(alloc, name),
         }

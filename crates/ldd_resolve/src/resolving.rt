@@ -1,4 +1,4 @@
-//! The listing of a program.
+//! What a program loads.
 ghost use Rattle.std.specs.Prelude.{◌≡◌, ◌∷◌, [], false, true, Ok, Err, Some, None, is_some, IfOk};
 ghost use Rattle.std.specs.Option.{option_copied};
 ghost use Rattle.elf_dynamic.specs.Begun.{ReadsBy, file_keys, key_in, lacks_one};
@@ -8,9 +8,9 @@ ghost use Rattle.tree_face.specs.Known.{IfKnown};
 ghost use Rattle.tree_face.specs.Store.{Contents};
 ghost use Rattle.image_tree.specs.Tree.{node_at};
 ghost use Rattle.ldd_resolve.specs.Requests.{Lists};
-ghost use Rattle.ldd_resolve.specs.Resolving.{AreLoaded, BeginsNoneLacking, IfBadProgram, IsBadProgram, IsListing, IsNoProgram, IsScope, ReadsListing, object_at, program_at, resolve_ending};
+ghost use Rattle.ldd_resolve.specs.Resolving.{AreLoaded, BeginsNoneLacking, IfBadProgram, IsBadProgram, IsNoProgram, IsScope, ReadsListing, object_at, program_at, resolve_ending};
 
-use crate::kinds::{Listing, Members, ResolveFault, Scope};
+use crate::kinds::{Members, ResolveFault, Scope};
 use crate::loading::Loading;
 use crate::requests::{Given, answer_all};
 use cache_lookup::Sorted;
@@ -65,13 +65,14 @@ fn load<S: Store>(
         Ok(()) => Ok(Scope {
             members: Members::from_vec(loading.members),
             listing: loading.items,
+            found: loading.found,
         }),
         Err(fault) => Err(fault),
     }
 }
 
-/// The members that a program loads, with their paths and names, and the listing of the requests. The program's ABI replaces that of
-/// `env`. The search skips a cache that doesn't exist.
+/// The members that a program loads, with their paths and names, the listing of the requests, and the paths by which members were found.
+/// The program's ABI replaces that of `env`. The search skips a cache that doesn't exist.
 ///
 /// A loaded file isn't read again, and each file is loaded once, so the call terminates for every image. A name that isn't found is
 /// searched again for each later object that needs it, because that object's own directories may have it.
@@ -101,28 +102,4 @@ pub fn scope<S: Store>(
     let program = Found { path, real, object };
     let scope = load(alloc, tree, store, cache, env, program)?;
     Ok(scope)
-}
-
-/// The libraries that a program loads, with their paths: the listing of its scope.
-pub fn resolve<S: Store>(
-    alloc: Global,
-    tree: &Tree,
-    store: &mut S,
-    cache: Option<&Sorted<'_>>,
-    program: &[u8],
-    env: &Env,
-) -> Result<Listing, ResolveFault>
-    ensures listing { IfOk result (λ items. IfKnown (S.state store.old).held
-        (λ held. IsListing tree.now (option_copied cache.entry) program.now env.now held items)) }
-    ensures held { IfOk result (λ _. IfKnown (S.state store.old).held (λ held. BeginsNoneLacking held (S.state store.old) (S.state store.new))) }
-    ensures no_program { IsNoProgram (program_at tree.now program.now) result }
-    ensures bad_program { IfBadProgram result (λ d. IfKnown (S.state store.old).held (λ held. IsBadProgram held tree.now program.now d)) }
-    ensures range { IfBadProgram result IsInRange }
-    ensures reads { ReadsListing (S.state store.old).held tree.now (option_copied cache.entry) program.now env.now (resolve_ending result)
-        (S.state store.old) (S.state store.new) }
-{
-    match scope(alloc, tree, store, cache, program, env) {
-        Ok(scope) => Ok(scope.listing),
-        Err(fault) => Err(fault),
-    }
 }

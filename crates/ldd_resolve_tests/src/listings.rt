@@ -5,14 +5,14 @@ use elf_samples::SampleFault;
 use image_rows::{
     CACHE, FILES, LOADER, MANIFEST, STORE_FAILS, cache_in, env_of, is_made, store_of, tree_of,
 };
-use ldd_resolve::{Listing, ResolveFault, listing_text, resolve};
+use ldd_resolve::{ResolveFault, Scope, listing_text, scope};
 use lib_types::{Defect, NoMemory};
 use std::alloc::Global;
-use table_rows::{Differences, Row, Trial, Words, lines_in, value};
+use table_rows::{Differences, Row, Trial, Words, has_line, lines_in, value};
 use tree_face::Tree;
 
-/// A row has an image, its cache and the loader's environment, the path of the program (`at`), the text of the listing or the fault, and
-/// the keys of the files that are opened.
+/// A row has an image, its cache and the loader's environment, the path of the program (`at`), the text of the listing or the fault, the
+/// paths by which files were found, and the keys of the files that are opened.
 pub(crate) struct Listings;
 
 fn fault_text(fault: ResolveFault) -> &'static [u8] {
@@ -25,14 +25,33 @@ fn fault_text(fault: ResolveFault) -> &'static [u8] {
     }
 }
 
+// The paths are compared only if the row has them.
+fn are_found(
+    alloc: Global,
+    row: Row<'_>,
+    scope: &Scope,
+    differences: &mut Differences,
+) -> Result<bool, NoMemory> {
+    if !has_line(row, b"found") {
+        return Ok(true);
+    }
+    differences.is_text(alloc, row, b"found", &lines_in(alloc, &scope.found)?)
+}
+
 fn is_listed(
     alloc: Global,
     row: Row<'_>,
-    listed: Result<Listing, ResolveFault>,
+    resolved: Result<Scope, ResolveFault>,
     differences: &mut Differences,
 ) -> Result<bool, NoMemory> {
-    match listed {
-        Ok(listing) => differences.is_text(alloc, row, b"listing", &listing_text(alloc, &listing)?),
+    match resolved {
+        Ok(scope) => {
+            let listing = listing_text(alloc, &scope.listing)?;
+            Ok(
+                differences.is_text(alloc, row, b"listing", &listing)?
+                    && are_found(alloc, row, &scope, differences)?,
+            )
+        }
         Err(fault) => {
             let want = value(row, b"fault").unwrap_or(b"");
             differences.is_same(b"fault", want, fault_text(fault))
@@ -50,10 +69,10 @@ fn try_row(
     let env = env_of(alloc, row)?;
     let mut store = store_of(alloc, row)?;
     let program = value(row, b"main-program").unwrap_or(b"");
-    let listed = resolve(alloc, tree, &mut store, cache, program, &env);
+    let resolved = scope(alloc, tree, &mut store, cache, program, &env);
     let keys = lines_in(alloc, store.keys())?;
     Ok(
-        is_listed(alloc, row, listed, differences)?
+        is_listed(alloc, row, resolved, differences)?
             && differences.is_text(alloc, row, b"keys", &keys)?,
     )
 }
@@ -87,7 +106,7 @@ const WORDS: &[Words] = &[
     STORE_FAILS,
     CACHE,
     LOADER,
-    &[b"main-program", b"listing", b"fault", b"keys"],
+    &[b"main-program", b"listing", b"found", b"fault", b"keys"],
 ];
 
 impl Trial for Listings {

@@ -6,6 +6,7 @@ use Rattle.ldso_conf.specs.Reading.{Item, Names, Reports, Reads, Passes, Misses,
 use Rattle.ldso_conf.specs.Steps.{numbered}
 use Rattle.path_walk.specs.declared.walk.Mode.TheVariants.{Plain}
 use Rattle.conf_views.specs.Patterns.{results_listed, results_looked}
+use Rattle.conf_views.specs.View.{LooksUp, ViewState}
 use Rattle.seen_tree.specs.Part.{looked_by}
 use Rattle.tree_face.specs.Store.{Contents}
 
@@ -31,6 +32,10 @@ item_paths of (Reads f key content) = file_paths of f.0 content
 item_paths of (Passes f key) = []
 item_paths of (Misses f key) = []
 
+-- between two states of a view, just these paths of the patterns are looked up and listed
+abbrev pub LooksUpBy : ((List ℕ → List ℕ → List (List ℕ)) → List (List ℕ)) → ViewState → ViewState → Type 0
+LooksUpBy paths before after = LooksUp (paths (results_looked before.tree)) (paths (results_listed before.tree)) before after
+
 -- ---- the reading
 
 -- the paths that are looked up for the patterns in these items, and the directories that are listed for them
@@ -50,3 +55,6 @@ items_looked (Given dirs) held t = []
 unfoldable pub items_listed : Source → Contents → Nodes → List (List ℕ)
 items_listed (ConfFile path) held t = patterns_listed t (conf_items (ConfFile path) held t)
 items_listed (Given dirs) held t = []
+
+abbrev pub LooksForConf : Source → Contents → ViewState → ViewState → Type 0
+LooksForConf source held before after = LooksUp (items_looked source held before.tree) (items_listed source held before.tree) before after

@@ -2,9 +2,9 @@
 ghost use Rattle.std.specs.Prelude.{◌≡◌, ◌≤◌, ◌-◌, ◌+◌, ◌∷◌, [], None, false, length, All, IfErr, IfOk, IsErrOf, OnOk};
 ghost use Rattle.lib_types.specs.Counts.{raised};
 ghost use Rattle.tree_face.specs.Known.{IfKnown};
-ghost use Rattle.conf_views.specs.View.{IsSameView, LooksUp};
+ghost use Rattle.conf_views.specs.View.{IsSameView};
 ghost use Rattle.ldso_conf.specs.Endings.{StopsBy, read_ending};
-ghost use Rattle.ldso_conf.specs.Looked.{items_listed, items_looked};
+ghost use Rattle.ldso_conf.specs.Looked.{LooksForConf};
 ghost use Rattle.ldso_conf.specs.Reading.{begun, included, reported, was_read, ConfFile as ConfFileAt, IsConfOf, ReadsConf};
 ghost use Rattle.ldso_conf.specs.Visits.{with_report, HasLoaded, HasTaken, IsToBegin, LooksFor, ReadsAny, ReadsFile, ReadsItems};
 ghost use Rattle.ldso_conf.specs.declared.fault.ReadFault.TheVariants as faults;
@@ -157,8 +157,7 @@ pub fn read_conf_in<V: TreeView, S: Store>(
     ensures begun { IfOk result (λ conf. (S.state store.new).begun ≡ raised (S.state store.old).begun conf.files) }
     ensures reads { V.knows view.old → ReadsConf (ConfFileAt path.now) (V.state view.old).tree (read_ending result) (S.state store.old) (S.state store.new) }
     ensures any { ReadsAny (S.state store.old).held (read_ending result) (S.state store.old) (S.state store.new) }
-    ensures looks { OnOk result (V.knows view.old → IfKnown (S.state store.old).held (λ held. LooksUp (items_looked (ConfFileAt path.now) held (V.state view.old).tree)
-        (items_listed (ConfFileAt path.now) held (V.state view.old).tree) (V.state view.old) (V.state view.new))) }
+    ensures looks { OnOk result (V.knows view.old → IfKnown (S.state store.old).held (λ held. LooksForConf (ConfFileAt path.now) held (V.state view.old) (V.state view.new))) }
     ensures knows { OnOk result (V.knows view.old → V.knows view.new) }
     ensures view { IsSameView (V.state view.old) (V.state view.new) }
     ensures since { OnOk result ((start : V) → V.since start view.old → V.since start view.new) }

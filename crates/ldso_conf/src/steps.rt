@@ -1,10 +1,9 @@
 //! What the lines of a conf file ask for.
 ghost use Rattle.std.specs.Prelude.{◌≡◌, ◌∷◌, ◌++◌, [], false, map, flat_map, IfErr, IfOk, IsErrOf, OnOk};
-ghost use Rattle.conf_views.specs.Patterns.{results_listed, results_looked};
-ghost use Rattle.conf_views.specs.View.{IsSameView, LooksUp};
+ghost use Rattle.conf_views.specs.View.{IsSameView};
 ghost use Rattle.conf_views.specs.declared.fault.ViewFault.TheVariants as faults;
 ghost use Rattle.ldso_conf.specs.Lines.{arguments_of, include, words_of};
-ghost use Rattle.ldso_conf.specs.Looked.{file_paths, include_paths};
+ghost use Rattle.ldso_conf.specs.Looked.{LooksUpBy, file_paths, include_paths};
 ghost use Rattle.ldso_conf.specs.Steps.{directory_steps, include_steps, named, origin_at, reported, steps_of, text_steps, without_slashes};
 ghost use Rattle.ldso_conf.specs.declared.steps.Step.TheVariants as step;
 
@@ -118,8 +117,7 @@ fn add_included<V: TreeView>(
     steps: &mut Vec<Step>,
 ) -> Result<(), ViewFault>
     ensures steps { OnOk result (V.knows view.old → steps.new.items ≡ steps.old.items ++ include_steps (V.state view.old).tree file.now patterns.now) }
-    ensures looks { OnOk result (V.knows view.old → LooksUp (flat_map (results_looked (V.state view.old).tree file.now) (words_of patterns.now))
-        (flat_map (results_listed (V.state view.old).tree file.now) (words_of patterns.now)) (V.state view.old) (V.state view.new)) }
+    ensures looks { OnOk result (V.knows view.old → LooksUpBy (λ of. flat_map (of file.now) (words_of patterns.now)) (V.state view.old) (V.state view.new)) }
     ensures knows { OnOk result (V.knows view.old → V.knows view.new) }
     ensures view { IsSameView (V.state view.old) (V.state view.new) }
     ensures since { OnOk result ((start : V) → V.since start view.old → V.since start view.new) }
@@ -144,8 +142,7 @@ fn add_text<V: TreeView>(
     steps: &mut Vec<Step>,
 ) -> Result<(), ViewFault>
     ensures steps { OnOk result (V.knows view.old → steps.new.items ≡ steps.old.items ++ text_steps (V.state view.old).tree (origin_at file.now line) text.now) }
-    ensures looks { OnOk result (V.knows view.old → LooksUp (include_paths (results_looked (V.state view.old).tree) file.now (arguments_of include text.now))
-        (include_paths (results_listed (V.state view.old).tree) file.now (arguments_of include text.now)) (V.state view.old) (V.state view.new)) }
+    ensures looks { OnOk result (V.knows view.old → LooksUpBy (λ of. include_paths of file.now (arguments_of include text.now)) (V.state view.old) (V.state view.new)) }
     ensures knows { OnOk result (V.knows view.old → V.knows view.new) }
     ensures view { IsSameView (V.state view.old) (V.state view.new) }
     ensures since { OnOk result ((start : V) → V.since start view.old → V.since start view.new) }
@@ -172,8 +169,7 @@ pub(crate) fn steps_of<V: TreeView>(
     content: &[u8],
 ) -> Result<Vec<Step>, ViewFault>
     ensures steps { IfOk result (λ steps. V.knows view.old → steps.items ≡ steps_of (V.state view.old).tree file.now content.now) }
-    ensures looks { OnOk result (V.knows view.old → LooksUp (file_paths (results_looked (V.state view.old).tree) file.now content.now)
-        (file_paths (results_listed (V.state view.old).tree) file.now content.now) (V.state view.old) (V.state view.new)) }
+    ensures looks { OnOk result (V.knows view.old → LooksUpBy (λ of. file_paths of file.now content.now) (V.state view.old) (V.state view.new)) }
     ensures knows { OnOk result (V.knows view.old → V.knows view.new) }
     ensures view { IsSameView (V.state view.old) (V.state view.new) }
     ensures since { OnOk result ((start : V) → V.since start view.old → V.since start view.new) }

@@ -58,7 +58,7 @@ module _ (scope : Scope) (held : Contents) (t : Nodes) (loaded : List Stamp) (se
   abbrev info : Analyses
   info = judged scope (info_wanted scope held t loaded)
 
-  wanted_are : wanted t search.dirs.places ≡ wanted_in scope held t
+  pub wanted_are : wanted t search.dirs.places ≡ wanted_in scope held t
   unfolding wanted_in
   wanted_are = ap (wanted t) s.places
 
@@ -114,10 +114,10 @@ module _ (scope : Scope) (held : Contents) (t : Nodes) (loaded : List Stamp) (se
     only : (path : List ℕ) → is_in (keys_of search.files.table) path ≡ true → is_in (wanted t search.dirs.places) path ≡ true
     only = rows_only t search.dirs.places search.files.table is.rows
 
-    is_planned : new ≡ planned_in scope held t loaded
+    pub is_planned : new ≡ planned_in scope held t loaded
     is_planned = new_is ∙ tree_is
 
-    reached_are : reached new search.dirs.places ≡ reached_in scope held t loaded
+    pub reached_are : reached new search.dirs.places ≡ reached_in scope held t loaded
     unfolding reached_in
     reached_are = ap (λ n. reached n search.dirs.places) is_planned ∙ ap (reached (planned_in scope held t loaded)) s.places
 
@@ -158,7 +158,7 @@ module _ (scope : Scope) (held : Contents) (t : Nodes) (loaded : List Stamp) (se
     info_first path among = sym (info_front held t loaded (wanted_in scope held t) (after_in scope held t loaded) path among)
 
     -- the files that are read first
-    one_agrees : (after : Analyses) → KeepsAnalyses table after → AgreeOn (wanted t search.dirs.places) (judged scope (info_files scope held t loaded)) after
+    pub one_agrees : (after : Analyses) → KeepsAnalyses table after → AgreeOn (wanted t search.dirs.places) (judged scope (info_files scope held t loaded)) after
     one_agrees after keeps path among =
         keeps path (is.all path among) ∙ agree_wanted path among
         ∙ judged_same scope (info_files scope held t loaded) (info_wanted scope held t loaded) path (info_first path (subst (λ (paths : List (List ℕ)). is_in paths path ≡ true) wanted_are among))
@@ -180,7 +180,7 @@ module _ (scope : Scope) (held : Contents) (t : Nodes) (loaded : List Stamp) (se
             ∙ kept (is_in (wanted t search.dirs.places) path) (is_in (reached new search.dirs.places) path)
             (sym (kept_in (λ path. not (is_in (wanted t search.dirs.places) path)) path (reached new search.dirs.places)) ∙ ap (λ paths. is_in paths path) (sym others_are) ∙ among)
 
-    other_agrees : IsSearchedAlike t new → (after : Analyses) → KeepsAnalyses (analysis_at search.files.table) after
+    pub other_agrees : IsSearchedAlike t new → (after : Analyses) → KeepsAnalyses (analysis_at search.files.table) after
         → AgreeOn following (judged scope (info_in held new there following)) after → AgreeOn (reached new search.dirs.places) (judged scope (info_files scope held t loaded)) after
     other_agrees alike after keeps more path among = by_test (is_in (wanted t search.dirs.places) path)
         (λ e. one_agrees after keeps path e)

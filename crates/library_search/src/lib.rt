@@ -10,4 +10,4 @@ mod search;
 pub use fault::FindFault;
 pub use finding::{Found, find, plan_found};
 pub use following::Followed;
-pub use search::{Search, read_source, search_places};
+pub use search::{Search, conf_or, read_source, search_places};

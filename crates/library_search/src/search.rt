@@ -43,8 +43,8 @@ pub struct Search {
     pub files: Files,
 }
 
-// The path of the conf file.
-fn conf_or(conf: &Option<Text>) -> &[u8]
+/// The path of the conf file: this one, or that of ldconfig(8).
+pub fn conf_or(conf: &Option<Text>) -> &[u8]
     ensures { result.now ≡ conf_or conf.now }
 {
     match conf {

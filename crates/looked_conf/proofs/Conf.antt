@@ -35,7 +35,7 @@ module _ (path : List ℕ) (a b : FolderState) (x y : Looked) (looks : LooksOn a
   LooksFrom held =
       LooksUp (items_looked (ConfFile path) held (tree_of a.contents)) (items_listed (ConfFile path) held (tree_of a.contents)) (view_state a x) (view_state b y)
 
-  loaded : (held : Contents) → (IsViewOf a x → LooksFrom held) → LoadsConf path held a b x y
+  loaded : (held : Contents) → (IsViewOf a x → LooksFrom held) → LoadsConf (ConfFile path) held a b x y
   loaded held up = record {
     looks = has_looked a.contents x y (λ t. items_looked (ConfFile path) held t) (λ t. items_listed (ConfFile path) held t) looks.known
         (λ is. ((up is).looked refl, (up is).listed refl));
@@ -44,6 +44,6 @@ module _ (path : List ℕ) (a b : FolderState) (x y : Looked) (looks : LooksOn a
     reads = looks.reads;
   }
 
-  pub conf_loaded : (known : Option Contents) → (IsViewOf a x → IfKnown known LooksFrom) → IfKnown known (λ held. LoadsConf path held a b x y)
+  pub conf_loaded : (known : Option Contents) → (IsViewOf a x → IfKnown known LooksFrom) → IfKnown known (λ held. LoadsConf (ConfFile path) held a b x y)
   conf_loaded None up = tt
   conf_loaded (Some held) up = loaded held up

@@ -1,8 +1,8 @@
 -- The reading of the conf files of a directory (ldconfig(8)): what is needed of the directory is looked up.
-use Rattle.std.specs.Prelude.{◌≡◌, ◌≤◌, ℕ, List, All, length, Result, Ok, Err, IfErr, IfOk, OnOk}
+use Rattle.std.specs.Prelude.{◌≡◌, ◌≤◌, All, length, Result, Ok, Err, IfErr, IfOk, OnOk}
 use Rattle.image_tree.specs.declared.path.TheConstants.{PATH_MAX}
 use Rattle.ldso_conf.specs.Looked.{items_listed, items_looked}
-use Rattle.ldso_conf.specs.Reading.{ConfFile, IsConfOf, ReadsConf}
+use Rattle.ldso_conf.specs.Reading.{IsConfOf, ReadsConf, Source}
 use Rattle.ldso_conf.specs.Visits.{ReadsAny}
 use Rattle.ldso_conf.specs.declared.kinds.Conf.{Conf}
 use Rattle.lib_types.specs.Counts.{raised}
@@ -17,9 +17,9 @@ use Rattle.tree_face.specs.Known.{IfKnown}
 use Rattle.tree_face.specs.Store.{Contents, StoreState}
 use Rattle.tree_face.specs.StoreUse.{Ending, Complete, DeviceFailed, GaveUp}
 
--- exactly the paths were looked up and exactly the directories were listed that the conf file at this path needs
-abbrev pub LoadsConf : List ℕ → Contents → FolderState → FolderState → Looked → Looked → Type 0
-LoadsConf path held before after old new = Loads (λ t. items_looked (ConfFile path) held t) (λ t. items_listed (ConfFile path) held t) before after old new
+-- exactly the paths were looked up and exactly the directories were listed that this source of directories needs
+abbrev pub LoadsConf : Source → Contents → FolderState → FolderState → Looked → Looked → Type 0
+LoadsConf source held before after old new = Loads (λ t. items_looked source held t) (λ t. items_listed source held t) before after old new
 
 -- a property of the tree, if it is known and what was looked at agrees with it
 abbrev pub IfLooked : FolderState → Looked → (Nodes → Type 0) → Type 0
@@ -46,12 +46,12 @@ LookFails faults.NoMemory before after old new = HasRead before after
 
 -- If the tree and the contents of the files are known, the conf files are those of the tree, and exactly what they need was looked at. In
 -- every case the directory is only read, and what was looked at still agrees with the tree.
-pub record SeesConf (path : List ℕ) (result : Result Conf LookFault) (before after : FolderState) (start end : StoreState) (old new : Looked) : Type 0 where
-  pub conf : IfOk result (λ conf. IfLooked before old (λ t. IfKnown start.held (λ held. IsConfOf (ConfFile path) conf held t)))
+pub record SeesConf (source : Source) (result : Result Conf LookFault) (before after : FolderState) (start end : StoreState) (old new : Looked) : Type 0 where
+  pub conf : IfOk result (λ conf. IfLooked before old (λ t. IfKnown start.held (λ held. IsConfOf source conf held t)))
   pub short : IfOk result (λ conf. All (λ dir. length dir ≤ PATH_MAX) conf.dirs)
   pub begun : IfOk result (λ conf. end.begun ≡ raised start.begun conf.files)
-  pub loads : OnOk result (IfKnown start.held (λ held. LoadsConf path held before after old new))
+  pub loads : OnOk result (IfKnown start.held (λ held. LoadsConf source held before after old new))
   pub looks : OnOk result (LooksOn before after old new)
   pub fails : IfErr result (λ fault. LookFails fault before after old new)
-  pub reads : IfLooked before old (λ t. ReadsConf (ConfFile path) t (look_ending result) start end)
+  pub reads : IfLooked before old (λ t. ReadsConf source t (look_ending result) start end)
   pub any : ReadsAny start.held (look_ending result) start end

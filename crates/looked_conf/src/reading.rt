@@ -31,7 +31,7 @@ fn read_in<F: Folder, S: Store>(
     ensures short { IfOk result (λ conf. All (λ dir. length dir ≤ PATH_MAX) conf.dirs) }
     ensures begun { IfOk result (λ conf. (S.state store.new).begun ≡ raised (S.state store.old).begun conf.files) }
     ensures loads { OnOk result (IfKnown (S.state store.old).held
-        (λ held. LoadsConf path.now held (F.state view.old.folder.now) (F.state view.new.folder.now) view.old.looked.now view.new.looked.now)) }
+        (λ held. LoadsConf (ConfFile path.now) held (F.state view.old.folder.now) (F.state view.new.folder.now) view.old.looked.now view.new.looked.now)) }
     ensures looks { OnOk result (LooksOn (F.state view.old.folder.now) (F.state view.new.folder.now) view.old.looked.now view.new.looked.now) }
     ensures fails { IfErr result (λ fault. LookFails fault (F.state view.old.folder.now) (F.state view.new.folder.now) view.old.looked.now view.new.looked.now) }
     ensures reads { IfLooked (F.state view.old.folder.now) view.old.looked.now
@@ -58,7 +58,7 @@ fn read_with<F: Folder, S: Store>(
     store: &mut S,
     fault: &mut Option<TreeRead>,
 ) -> Result<Conf, LookFault>
-    ensures { SeesConf path.now result (F.state folder.old) (F.state folder.new) (S.state store.old) (S.state store.new) looked.old looked.new }
+    ensures { SeesConf (ConfFile path.now) result (F.state folder.old) (F.state folder.new) (S.state store.old) (S.state store.new) looked.old looked.new }
 {
     let mut view = LookedView::new(folder, looked, fault);
     read_in(alloc, path, &mut view, store)
@@ -73,7 +73,7 @@ pub fn see_conf<F: Folder, S: Store>(
     folder: &mut F,
     store: &mut S,
 ) -> Result<Conf, LookFault>
-    ensures { SeesConf path.now result (F.state folder.old) (F.state folder.new) (S.state store.old) (S.state store.new) looked.old looked.new }
+    ensures { SeesConf (ConfFile path.now) result (F.state folder.old) (F.state folder.new) (S.state store.old) (S.state store.new) looked.old looked.new }
 {
     let mut fault = None;
     read_with(alloc, path, looked, folder, store, &mut fault)

@@ -11,8 +11,8 @@ use Rattle.asking_runs.specs.declared.listings.Listed.{Listed}
 use Rattle.command_status.specs.Ending.{AnswerText, EndsAs}
 use Rattle.command_status.specs.declared.status.Status.{Status}
 use Rattle.command_status.specs.declared.status.Status.TheVariants.{Done, Missing, NoMemory}
-use Rattle.commands.specs.Devices.{DeviceStates, IfBothKnown}
-use Rattle.commands.specs.declared.kinds.Resolve.{Resolve}
+use Rattle.tree_face.specs.Devices.{DeviceStates, IfBothKnown}
+use Rattle.command_words.specs.declared.kinds.Resolve.{Resolve}
 use Rattle.rpath_search.specs.declared.kinds.SystemDirs.TheVariants.{Debian}
 use Rattle.image_session.specs.declared.fault.SlotFault.TheVariants as slots
 use Rattle.image_session.specs.declared.reading.ReadImage.{ReadImage}

@@ -10,8 +10,8 @@ use Rattle.cache_reader.specs.Cache.{CachedEntry}
 use Rattle.command_status.specs.Ending.{AnswerText, EndsAs}
 use Rattle.command_status.specs.declared.status.Status.{Status}
 use Rattle.command_status.specs.declared.status.Status.TheVariants.{Done, Missing, NoMemory}
-use Rattle.commands.specs.Devices.{DeviceStates, IfBothKnown, states}
-use Rattle.commands.specs.declared.kinds.Resolve.{Resolve}
+use Rattle.tree_face.specs.Devices.{DeviceStates, IfBothKnown, states}
+use Rattle.command_words.specs.declared.kinds.Resolve.{Resolve}
 use Rattle.rpath_search.specs.declared.kinds.SystemDirs.TheVariants.{Debian}
 use Rattle.image_session.specs.declared.reading.ReadImage.{ReadImage}
 use Rattle.image_tree.specs.Tree.{Nodes}

@@ -7,7 +7,7 @@ use crate::fault::{ReadFault, RootListFault};
 use crate::reading::read_root;
 use asking_runs::{Listed, list_image};
 use command_status::{Status, end};
-use commands::Resolve;
+use command_words::Resolve;
 use image_session::ReadImage;
 use root_folder::Folder;
 use rpath_search::SystemDirs;

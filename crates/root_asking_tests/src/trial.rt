@@ -1,5 +1,5 @@
 //! One row: a run of `resolve` for a directory.
-use commands::Resolve;
+use command_words::{Form, Resolve};
 use elf_samples::SampleFault;
 use image_rows::{
     CACHE, DISK_FAILS, FILES, LOADER, MANIFEST, STORE_FAILS, disk_of, env_of, is_made, slots_in,
@@ -10,13 +10,22 @@ use root_asking::resolve_root;
 use root_folder::MemFolder;
 use rpath_search::Env;
 use std::alloc::Global;
-use table_rows::{Differences, Row, Trial, Words, calls, count, lines_in, values};
+use table_rows::{Differences, Row, Trial, Words, calls, count, lines_in, value, values};
 use tree_face::{MemDisk, MemSink};
 
 /// A row has the tree of a directory as a manifest, the store's files, the cache, the loader's environment, the paths of the programs,
-/// and the calls that fail. It has the exit status, the output, the keys of the files that are opened, and the files that are read from the
+/// the form of the answer, and the calls that fail. It has the exit status, the output, the keys of the files that are opened, and the files that are read from the
 /// disk.
 pub(crate) struct Listed;
+
+// The form that the row asks for: a list whose paths end with NUL or a newline, or listings.
+fn form_of(row: Row<'_>) -> Form {
+    match value(row, b"list") {
+        Some(b"NUL") => Form::Files { end: 0 },
+        Some(_) => Form::Files { end: b'\n' },
+        None => Form::Listing,
+    }
+}
 
 fn asked_of(alloc: Global, row: Row<'_>) -> Result<Resolve, NoMemory> {
     let paths = values(alloc, row, b"main-program")?;
@@ -33,6 +42,7 @@ fn asked_of(alloc: Global, row: Row<'_>) -> Result<Resolve, NoMemory> {
         library_path,
         platform,
         secure,
+        form: form_of(row),
     })
 }
 
@@ -99,6 +109,7 @@ const WORDS: &[Words] = &[
         b"folder-fails",
         b"out-fails",
         b"main-program",
+        b"list",
         b"status",
         b"output",
         b"keys",

@@ -1,16 +1,14 @@
 -- Links are made, and then made durable.
-use Rattle.std.proofs.Common.{◌≡◌, ◌⊎◌, inl, inr, ⊎_elim, ◌<◌, ◌≤◌, ◌+◌, ℕ, Bool, true, false, List, [], ◌∷◌, ◌++◌, map, take, length, refl, ap, sym, subst, ◌∙◌, Option, Some, None, arith}
-use Rattle.std.specs.Str.{bytes_eq}
-use Rattle.image_tree.specs.Tree.{Nodes, node_at}
+use Rattle.std.proofs.Common.{◌≡◌, inl, inr, ⊎_elim, ℕ, true, List, [], ◌++◌, map, take, length, refl, ap, subst, ◌∙◌, Option, Some, None}
+use Rattle.image_tree.specs.Tree.{node_at}
 use Rattle.path_walk.specs.Names.{parent}
 use Rattle.root_folder.proofs.Crash.{leaves_on}
 use Rattle.root_folder.specs.Crash.{Leaves}
 use Rattle.root_folder.specs.Folder.{FolderContent, FolderState}
 use Rattle.root_folder.specs.Found.{Found, found_eq}
-use Rattle.root_folder.specs.declared.folder.FolderCall.{FolderCall}
 use Rattle.root_links.proofs.Lists.{none_once, once, take_whole}
 use Rattle.root_links.proofs.Step.{readings_on}
-use Rattle.root_links.specs.Links.{HasMade, IsOfLinks, KeepsReadings, Linking, MakesAll, MakesPart, MayHaveMade, dirs_in, dirs_of, is_next_to, link_call, settling, with_links}
+use Rattle.root_links.specs.Links.{HasMade, IsOfLinks, Linking, MakesAll, MakesPart, MayHaveMade, dirs_in, dirs_of, is_next_to, link_call, settling, with_links}
 use Rattle.root_links.specs.Steps.{FailsToLink, FailsToSettle, HasLinked, HasSettled, IsOfSettling, LinksFirst, MayHaveLinked, MayHaveSettled, SettlesAll, is_in_one}
 use Rattle.root_links.specs.declared.fault.LinkFault.{LinkFault}
 use Rattle.root_links.specs.declared.fault.LinkFault.TheVariants as faults

@@ -1,8 +1,7 @@
 -- Directories are synced in order.
-use Rattle.std.proofs.Common.{◌≡◌, ◌⊎◌, inl, inr, ⊎_elim, ◌<◌, ◌+◌, ℕ, Bool, true, false, ◌||◌, List, [], ◌∷◌, ◌++◌, append_assoc, drop, slice_get, map, length, refl, ap, sym, subst, ◌∙◌, Option, Some, None, Result, Ok, Err, arith}
+use Rattle.std.proofs.Common.{◌≡◌, inl, inr, ◌<◌, ◌+◌, ℕ, Bool, true, false, ◌||◌, List, [], ◌∷◌, ◌++◌, append_assoc, drop, slice_get, map, length, refl, ap, sym, subst, ◌∙◌, Option, Some, None, Result, Ok, Err}
 use Rattle.std.proofs.lemmas.Bool.{false≢true, or_parts}
-use Rattle.std.proofs.lemmas.List.{append-nil}
-use Rattle.std.specs.List.{dedup, list_any}
+use Rattle.std.specs.List.{dedup}
 use Rattle.std.specs.Result.{is_err}
 use Rattle.std.specs.Str.{bytes_eq}
 use Rattle.image_tree.specs.Tree.{Nodes, node_at}
@@ -17,12 +16,12 @@ use Rattle.root_folder.specs.Whole.{is_in}
 use Rattle.root_folder.specs.declared.folder.FolderCall.{FolderCall}
 use Rattle.root_folder.specs.declared.folder.FolderCounts.{FolderCounts}
 use Rattle.root_links.proofs.Lists.{drop_next, in_either, last_stays, others_go}
-use Rattle.root_links.proofs.Step.{no_calls, readings_on}
+use Rattle.root_links.proofs.Step.{readings_on}
 use Rattle.root_links.specs.Links.{IsOfLinks, KeepsReadings, Linking, dirs_of, settling}
-use Rattle.root_links.specs.Steps.{FailsToSettle, HasSettled, HasSettledFirst, MayHaveSettled, SettlesAll, is_in_one, is_last_of}
+use Rattle.root_links.specs.Steps.{FailsToSettle, HasSettled, HasSettledFirst, MayHaveSettled, is_in_one, is_last_of}
 use Rattle.root_links.specs.declared.fault.LinkFault.TheVariants as faults
 use Rattle.tree_face.proofs.Follows.{follow, follow_part, part_of}
-use Rattle.tree_face.proofs.Known.{relates_by, relates_on}
+use Rattle.tree_face.proofs.Known.{relates_on}
 use Rattle.tree_face.specs.Follows.{IsFollowedBy, IsFollowedByPart}
 use Rattle.tree_face.specs.Known.{IfKnown, Relates}
 
@@ -34,10 +33,6 @@ map_both : (xs ys : List (List ℕ)) → map settling (xs ++ ys) ≡ map settlin
 map_both [] ys = refl
 map_both (x ∷ xs) ys = ap (λ z. settling x ∷ z) (map_both xs ys)
 
-either_false : (a : Bool) → (a || false) ≡ true → a ≡ true
-either_false true h = refl
-either_false false h = absurd (false≢true h)
-
 -- ---- no directory so far
 
 same : (c : Option FolderContent) → Relates (HasSettled []) c c
@@ -47,20 +42,6 @@ same (Some c) = record { now = refl; inside = λ p h. absurd (false≢true h); o
 nothing_durable : (s : FolderState) (c : Option FolderContent) → IfKnown c (λ c. (p : List ℕ) (x : Found) → is_in_one [] p ≡ true → s.may p x ≡ found_eq (node_at c.now p) x)
 nothing_durable s None = tt
 nothing_durable s (Some c) = λ p x h. absurd (false≢true h)
-
-pub none_settled : (all : List (List ℕ)) (s : FolderState) → HasSettledFirst all all s s
-none_settled all s = record {
-  first = [];
-  parts = refl;
-  made = record {
-    contents = same s.contents;
-    calls = no_calls s.calls;
-    leaves = record { later = omega arith; during = λ t p x le h. inl h; now = λ p x h. inl h };
-    durable = nothing_durable s s.contents;
-    readings = record { lists = refl; looks = refl; read_faults = refl };
-    faults = refl;
-  };
-}
 
 -- ---- one more directory
 
@@ -175,7 +156,3 @@ module _ (all dirs : List (List ℕ)) (i : ℕ) (dir : List ℕ) (at : slice_get
   pub next_later : is_last_of (drop i dirs) ≡ false → HasSettledFirst all (dedup bytes_eq (drop (i + 1) dirs)) a b
   next_later other = subst (λ (l : List (List ℕ)). HasSettledFirst all l a b)
       (ap (dedup bytes_eq) (drop_next dirs i dir at) ∙ others_go dir (drop (i + 1) dirs) (sym (ap is_last_of (drop_next dirs i dir at)) ∙ other)) so_far
-
--- all directories are synced
-pub settling_ends : (all : List (List ℕ)) (a b : FolderState) → HasSettledFirst all [] a b → SettlesAll all a b
-settling_ends all a b so_far = subst (λ (dirs : List (List ℕ)). SettlesAll dirs a b) (sym (so_far.parts ∙ append-nil so_far.first)) so_far.made

@@ -1,23 +1,19 @@
 -- Links are made in order.
-use Rattle.std.proofs.Common.{◌≡◌, ◌⊎◌, inl, inr, ⊎_elim, ◌<◌, ◌+◌, ℕ, zero, suc, true, false, List, [], ◌∷◌, ◌++◌, drop, map, take, length, refl, ap, sym, subst, ◌∙◌, Option, Some, None, Result, Ok, Err, slice_get, add-one, arith}
-use Rattle.std.proofs.lemmas.List.{append-nil}
+use Rattle.std.proofs.Common.{◌≡◌, inl, inr, ◌+◌, ℕ, zero, suc, true, false, List, [], ◌∷◌, ◌++◌, drop, map, take, refl, ap, sym, subst, ◌∙◌, Option, Some, None, Result, Ok, Err, slice_get, add-one}
 use Rattle.std.specs.Result.{is_err}
 use Rattle.lib_types.specs.declared.fault.Failed.{Failed}
 use Rattle.image_tree.specs.Tree.{Nodes}
-use Rattle.image_tree.specs.declared.node.Node.TheVariants.{Link}
 use Rattle.root_folder.proofs.Crash.{leaves_on, link_leaves}
 use Rattle.root_folder.specs.Crash.{AddsLink, Leaves}
-use Rattle.root_folder.specs.Folder.{Does, FolderContent, FolderState, KeepsContent, Links, MayLink}
-use Rattle.root_folder.specs.Found.{Found}
+use Rattle.root_folder.specs.Folder.{Does, FolderContent, FolderState, Links, MayLink}
 use Rattle.root_folder.specs.declared.folder.FolderCall.{FolderCall}
-use Rattle.root_folder.specs.declared.folder.FolderCall.TheVariants as calls
 use Rattle.root_folder.specs.declared.folder.FolderCounts.{FolderCounts}
 use Rattle.root_links.proofs.Lists.{link_at, one_link_more, take_next, within}
 use Rattle.root_links.specs.Links.{IsOfLinks, KeepsReadings, Linking, link_call, with_link, with_links}
 use Rattle.root_links.specs.Steps.{FailsToLink, HasLinked, LinksFirst, MayHaveLinked}
 use Rattle.root_links.specs.declared.fault.LinkFault.TheVariants as faults
 use Rattle.tree_face.proofs.Follows.{follow, follow_part, part_of}
-use Rattle.tree_face.proofs.Known.{relates_by, relates_on}
+use Rattle.tree_face.proofs.Known.{relates_on}
 use Rattle.tree_face.specs.declared.disk.Tag.{Tag}
 use Rattle.tree_face.specs.Follows.{IsFollowedBy, IsFollowedByPart}
 use Rattle.tree_face.specs.Known.{Relates}
@@ -42,19 +38,6 @@ parts_of tag xs n k e = rw add-one (by xs n e)
 same : (c : Option FolderContent) → Relates (HasLinked []) c c
 same None = tt
 same (Some c) = record { now = refl; settled = λ p. refl }
-
-pub no_calls : (c : Option (List FolderCall)) → Relates (IsFollowedBy []) c c
-no_calls None = tt
-no_calls (Some c) = sym (append-nil c)
-
-pub none_linked : (tag : Tag) (links : List Linking) (s : FolderState) → LinksFirst tag links 0 s s
-none_linked tag links s = record {
-  contents = same s.contents;
-  calls = no_calls s.calls;
-  leaves = record { later = omega arith; during = λ t p x le h. inl h; now = λ p x h. inl h };
-  readings = record { lists = refl; looks = refl; read_faults = refl };
-  faults = refl;
-}
 
 module _ (tag : Tag) (links : List Linking) (i : ℕ) (l : Linking) (at : slice_get links i ≡ Some l) (a b c : FolderState) (first : LinksFirst tag links i a b) where
   abbrev IsDone : Result (Unit {0}) Failed → Type 0

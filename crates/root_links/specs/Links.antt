@@ -1,5 +1,5 @@
 -- Links are made in a directory in order, and then made durable (symlink(2), rename(2), fsync(2)).
-use Rattle.std.specs.Prelude.{◌≡◌, ◌⊎◌, ◌<◌, ◌+◌, ◌&&◌, ℕ, Bool, true, false, List, [], ◌∷◌, ◌++◌, drop, fold, length, map, not, take, Some}
+use Rattle.std.specs.Prelude.{◌≡◌, ◌⊎◌, ◌<◌, ◌+◌, ◌&&◌, ℕ, Bool, true, false, List, [], ◌∷◌, ◌++◌, fold, length, map, take, Some}
 use Rattle.std.specs.List.{dedup, list_all, list_any}
 use Rattle.std.specs.Str.{bytes_eq}
 use Rattle.image_tree.specs.Node.{is_target}

@@ -1,8 +1,6 @@
 -- Adding a node to the tree, and a directory to the list.
-use Rattle.std.proofs.Common.{◌≡◌, ◌≤◌, ◌+◌, ℕ, Bool, true, false, cond, List, [], ◌∷◌, ◌++◌, length, length-append, refl, ap, sym, subst, ◌∙◌, Option, Some, None, option_map, unwrap_or, arith}
+use Rattle.std.proofs.Common.{◌≡◌, ◌≤◌, ◌+◌, ℕ, Bool, true, false, cond, List, [], ◌∷◌, ◌++◌, length, length-append, refl, ap, sym, subst, ◌∙◌, None, option_map, unwrap_or, arith}
 use Rattle.std.proofs.lemmas.Map.Entries.{sum_by-insert_entry}
-use Rattle.std.specs.List.{sum_by}
-use Rattle.std.specs.Map.{values_of}
 use Rattle.lib_types.proofs.SortedPairs.{by_test}
 use Rattle.image_tree.proofs.Order.{path_total}
 use Rattle.image_tree.specs.Node.{is_dir}

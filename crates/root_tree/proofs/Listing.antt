@@ -1,7 +1,7 @@
 -- The listing of a directory, one name at a time, and of several directories in sequence.
-use Rattle.std.proofs.Common.{◌≡◌, ◌<◌, ◌≤◌, ◌+◌, ◌-◌, ℕ, fold, List, [], ◌∷◌, ◌++◌, length, length-append, drop, get_or, add-one, drop-cons, refl, ap, sym, subst, ◌∙◌, Option, Some, None, Result, Ok, Err, IfErr, arith}
-use Rattle.image_tree.specs.Tree.{Nodes, IsTree, children_of, kind_at}
-use Rattle.image_tree.specs.Paths.{join, root}
+use Rattle.std.proofs.Common.{◌≡◌, ◌<◌, ◌+◌, ◌-◌, ℕ, fold, List, [], ◌∷◌, ◌++◌, length, length-append, drop, get_or, add-one, drop-cons, refl, ap, sym, subst, ◌∙◌, Option, Some, None, Ok, Err, arith}
+use Rattle.image_tree.specs.Tree.{Nodes, IsTree, kind_at}
+use Rattle.image_tree.specs.Paths.{join}
 use Rattle.image_tree.specs.declared.tree.Kind.TheVariants as kinds
 use Rattle.image_tree.specs.declared.tree.TheConstants.{NODES_MAX}
 use Rattle.lib_types.specs.Counts.{raised}
@@ -9,7 +9,7 @@ use Rattle.root_folder.specs.Whole.{IsWhole}
 use Rattle.root_folder.specs.Crash.{HasWholeTree}
 use Rattle.root_folder.specs.Folder.{FolderContent, FolderState, HasNoFault, KeepsFolder}
 use Rattle.root_folder.specs.declared.folder.FolderCounts.{FolderCounts}
-use Rattle.root_tree.proofs.Known.{all_read, on_dir, part_on, root_first, too_many}
+use Rattle.root_tree.proofs.Known.{all_read, on_dir, part_on, too_many}
 use Rattle.root_tree.specs.ReadTree.{HasCause, HasRead, IsTooLarge, KeepsMade, ReadsOn, ReadsTree, dirs_in}
 use Rattle.root_tree.specs.SoFar.{Grows, IsFullAt, IsListing, IsPart, IsReadBut, IsReading, SoFar, listed, seen, so_far}
 use Rattle.root_tree.specs.declared.fault.TreeRead.{TreeRead}
@@ -55,10 +55,6 @@ fails_on a b c fault first next = record {
 known_as : (P : FolderContent → Type 0) (a b : Option FolderContent) → b ≡ a → IfKnown b P → IfKnown a P
 known_as P a b same known = subst (λ o. IfKnown o P) same known
 
-both : (P Q R : FolderContent → Type 0) (known : Option FolderContent) → ((c : FolderContent) → P c → Q c → R c) → IfKnown known P → IfKnown known Q → IfKnown known R
-both P Q R None f p q = tt
-both P Q R (Some c) f p q = f c p q
-
 -- ---- names of a directory
 
 -- the next of the remaining names
@@ -69,24 +65,6 @@ next_name names i item name less is same =
 
 grows_on : (a b c : SoFar) → Grows a b → Grows b c → Grows a c
 grows_on a b c first next = record { dirs = omega (arith, first.dirs, next.dirs); nodes = omega (arith, first.nodes, next.nodes) }
-
-same_all : (known : Option FolderContent) (dir : List ℕ) (names : List (List ℕ)) (s : SoFar) → IfKnown known (λ c. fold (seen c.now dir) s names ≡ fold (seen c.now dir) s names)
-same_all None dir names s = tt
-same_all (Some c) dir names s = refl
-
-same_part : (known : Option FolderContent) (part : Nodes) → IfKnown known (λ c. IsPart c.now part → IsPart c.now part)
-same_part None part = tt
-same_part (Some c) part = λ is. is
-
-pub listing_begins : (dir : List ℕ) (names : List (List ℕ)) (s : SoFar) (old new : FolderState) → HasRead old new → new.counts.lists ≡ raised old.counts.lists 1
-    → IsListing dir names names s s old new
-listing_begins dir names s old new reads lists = record {
-  seen_all = same_all old.contents dir names s;
-  part = same_part old.contents s.tree;
-  grows = record { dirs = refl; nodes = omega arith };
-  reads = reads;
-  lists = lists;
-}
 
 module _ (dir : List ℕ) (names : List (List ℕ)) (name : List ℕ) (rest : List (List ℕ)) (start here : SoFar) (old middle : FolderState) (whole : HasWholeTree old) (is_tree : IsTree here.tree)
     (so_far : IsListing dir names (name ∷ rest) start here old middle) where
@@ -119,11 +97,6 @@ module _ (dir : List ℕ) (names : List (List ℕ)) (name : List ℕ) (rest : Li
 
   pub listing_full : IfKnown middle.contents (λ c. IsFullAt c.now here.tree (join dir name)) → IfKnown old.contents (λ c. IsPart c.now start.tree) → IsTooLarge old
   listing_full at first = full old.contents whole (known_as _ old.contents middle.contents so_far.reads.keeps.contents at) so_far.part first
-
-pub listing_ends : (dir : List ℕ) (names : List (List ℕ)) (start here : SoFar) (old new : FolderState) → IsListing dir names [] start here old new
-    → IfKnown old.contents (λ c. (kind_at c.now dir ≡ kinds.Dir) × (names ≡ children_of c.now dir)) → IfKnown old.contents (λ c. here ≡ listed c.now dir start)
-unfolding listed
-listing_ends dir names start here old new is list = both _ _ _ old.contents (λ c all at. all ∙ ap (fold (seen c.now dir) start) at.1) is.seen_all list
 
 -- ---- directories in sequence
 

@@ -6,7 +6,6 @@ use Rattle.std.proofs.lemmas.List.{drop_at}
 use Rattle.std.proofs.lemmas.Slice.Eq.{starts_is}
 use Rattle.std.specs.List.{starts_with}
 use Rattle.std.specs.Str.{bytes_eq}
-use Rattle.lib_types.proofs.SortedPairs.{by_test}
 use Rattle.lib_types.specs.Name.{slash}
 use Rattle.image_tree.proofs.Below.{not_root}
 use Rattle.image_tree.proofs.Prefixes.{path_above}

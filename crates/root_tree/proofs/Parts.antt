@@ -1,6 +1,5 @@
 -- If a sorted list has all nodes of another sorted list, the other list is not longer. If both have the same length, they are equal.
-use Rattle.std.proofs.Common.{◌≡◌, ◌<◌, ◌≤◌, ◌+◌, ℕ, Bool, true, false, cond, ◌||◌, ◌&&◌, not, List, [], ◌∷◌, length, refl, ap, sym, subst, ◌∙◌, Option, Some, None, arith, Ordering}
-use Rattle.std.proofs.lemmas.Bool.{and_parts, eqb-true, false≢true}
+use Rattle.std.proofs.Common.{◌≡◌, ◌≤◌, ◌+◌, ℕ, Bool, true, cond, ◌||◌, List, [], ◌∷◌, length, refl, ap, sym, subst, ◌∙◌, Some, None, arith}
 use Rattle.std.proofs.lemmas.Cmp.{tied_itself}
 use Rattle.std.proofs.lemmas.Map.Keys.{sorted_head, sorted_tail}
 use Rattle.std.specs.BTreeMap.{is_at}
@@ -10,11 +9,9 @@ use Rattle.std.specs.Map.{keys_of}
 use Rattle.std.specs.Ordering.{is_eq}
 use Rattle.std.specs.declared.cmp.Ordering.TheVariants.{Less, Equal, Greater}
 use Rattle.lib_types.proofs.SortedPairs.{by_ordering, by_test, flipped, put_step}
-use Rattle.image_tree.proofs.Above.{found_any}
 use Rattle.image_tree.proofs.Below.{exact}
 use Rattle.image_tree.proofs.Order.{path_total}
-use Rattle.image_tree.specs.Node.{is_dir}
-use Rattle.image_tree.specs.Paths.{is_below, is_path, path_cmp}
+use Rattle.image_tree.specs.Paths.{path_cmp}
 use Rattle.image_tree.specs.Tree as tree
 use Rattle.image_tree.specs.Tree.{Nodes, IsPathSorted, clash_with, clashes, has_below, node_at}
 use Rattle.image_tree.specs.declared.node.Node.{Node}

@@ -1,7 +1,6 @@
 -- The result of looking up a path, if the content of the directory is known.
-use Rattle.std.proofs.Common.{◌≡◌, ◌∙◌, ◌&&◌, ℕ, Bool, true, false, cond, List, Option, Some, None, is_none, ap, sym, refl}
+use Rattle.std.proofs.Common.{◌≡◌, ◌&&◌, ℕ, Bool, true, false, cond, List, Option, Some, None, is_none, sym}
 use Rattle.std.specs.Option.{IsSomeAnd}
-use Rattle.lib_types.proofs.SortedPairs.{by_test}
 use Rattle.image_tree.specs.Paths.{is_path}
 use Rattle.image_tree.specs.Tree.{Nodes, IsFullFor, node_at}
 use Rattle.image_tree.specs.declared.node.Node.{Node}

@@ -1,5 +1,5 @@
 -- The contracts of private functions about a tree that is being read.
-use Rattle.std.specs.Prelude.{◌≡◌, ◌⊎◌, ◌≤◌, ◌+◌, ◌-◌, ◌++◌, ◌∷◌, [], ◌&&◌, ◌||◌, ℕ, Bool, true, false, List, if◌then◌else◌, fold, length, Option, Some, None, Result, Ok, Err, IfErr, OnOk, is_none}
+use Rattle.std.specs.Prelude.{◌≡◌, ◌⊎◌, ◌≤◌, ◌+◌, ◌-◌, ◌++◌, ◌∷◌, [], ◌&&◌, ◌||◌, ℕ, Bool, true, false, List, if◌then◌else◌, fold, length, Option, Some, None, Result, IfErr, OnOk, is_none}
 use Rattle.std.specs.List.{list_any}
 use Rattle.std.specs.Str.{bytes_eq}
 use Rattle.image_tree.specs.Node.{is_dir, is_node}

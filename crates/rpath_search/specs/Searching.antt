@@ -41,11 +41,12 @@ pub record IsNewAt (known : Option Contents) (t : Nodes) (abi : Abi) (places : L
 -- the answer is a loaded file or a new library
 abbrev pub IsNew : Option Contents → Nodes → Abi → List (List ℕ) → Option Answer → Type 0
 IsNew known t abi places None = Unit {0}
-IsNew known t abi places (Some (answer.Loaded i)) = i < length places
+IsNew known t abi places (Some (answer.Loaded i path)) = i < length places
 IsNew known t abi places (Some (answer.New f)) = IsNewAt known t abi places f
 
--- the path leads to the loaded file with this number
-pub record IsLoadedAt (t : Nodes) (places : List (List ℕ)) (path : List ℕ) (number : ℕ) : Type 0 where
+-- the path leads to the loaded file with this number, and it is the path of the answer
+pub record IsLoadedAt (t : Nodes) (places : List (List ℕ)) (path : List ℕ) (number : ℕ) (answered : List ℕ) : Type 0 where
+  pub here : answered ≡ path
   pub leads : file_at t path ≡ Some (slice_index_or places number [])
   pub within : number < length places
 
@@ -56,7 +57,7 @@ pub record IsLibraryAt (held : Contents) (t : Nodes) (abi : Abi) (path : List �
 
 -- the answer for a good path
 abbrev pub IsAnswer : Contents → Nodes → Abi → List (List ℕ) → List ℕ → Answer → Type 0
-IsAnswer held t abi places path (answer.Loaded i) = IsLoadedAt t places path i
+IsAnswer held t abi places path (answer.Loaded i answered) = IsLoadedAt t places path i answered
 IsAnswer held t abi places path (answer.New f) = IsLibraryAt held t abi path f
 
 -- whether the path is good, and its answer

@@ -35,8 +35,8 @@ pub struct LoadedFiles {
 /// The result of a search.
 #[derive(Drop)]
 pub enum Answer {
-    /// The loaded file with this number.
-    Loaded(usize),
+    /// The loaded file with this number, and the path that leads to it.
+    Loaded { number: usize, path: Text },
     New(Found),
 }
 
@@ -138,7 +138,7 @@ fn try_path<S: Store>(
         if files.is_outsider(real.as_bytes()) {
             return Ok(None);
         }
-        return Ok(Some(Answer::Loaded(number)));
+        return Ok(Some(Answer::Loaded { number, path }));
     }
     match library_at(alloc, tree, store, real.as_bytes(), abi)? {
         Some(object) => Ok(Some(Answer::New(Found { path, real, object }))),
@@ -193,6 +193,6 @@ pub fn find<S: Store>(
     let paths = Candidates::of_list(&loaders, places.as_slice());
     match search_paths(alloc, tree, store, &files, paths, abi)? {
         Some(Answer::New(found)) => Ok(Some(found)),
-        Some(Answer::Loaded(_)) | None => Ok(None),
+        Some(Answer::Loaded { .. }) | None => Ok(None),
     }
 }

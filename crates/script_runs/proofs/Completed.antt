@@ -1,6 +1,6 @@
 -- If all lines of a script can be done, the script is done, unless a device fails or memory runs out.
 use Rattle.std.proofs.Common.{◌≡◌, ◌⊎◌, ℕ, List, Option, Some, None, Result, Ok, Err, refl, sym, ◌∙◌, inl, inr}
-use Rattle.commands.specs.Devices.{IfBothKnown}
+use Rattle.tree_face.specs.Devices.{IfBothKnown}
 use Rattle.ldconfig_core.specs.Repair.{IsImageIn}
 use Rattle.ldconfig_core.specs.declared.fault.UpdateFault.{UpdateFault}
 use Rattle.ldconfig_core.specs.declared.fault.UpdateFault.TheVariants as updating

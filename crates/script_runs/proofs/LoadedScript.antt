@@ -1,6 +1,6 @@
 -- A script of the session in the files, from its loading on: what it leaves, and what a crash of it leaves.
 use Rattle.std.proofs.Common.{◌≡◌, ◌⊎◌, ◌≤◌, ℕ, Bool, true, List, Option, Some, None, Result, Ok, Err, refl, ap, sym, subst, ◌∙◌, inl, inr, arith}
-use Rattle.commands.specs.Devices.{IfBothKnown}
+use Rattle.tree_face.specs.Devices.{IfBothKnown}
 use Rattle.ldconfig_core.proofs.WrittenSlots.{one_image}
 use Rattle.ldconfig_core.specs.Repair.{IsImageIn}
 use Rattle.image_session.specs.Manifest.{Empty, Faulty, HasTree, manifest_of}

@@ -27,7 +27,7 @@ use Rattle.tree_face.specs.declared.disk.Slot.{Slot}
 use Rattle.tree_face.specs.declared.disk.Tag.{Tag}
 use Rattle.tree_face.specs.declared.disk.Slot.TheVariants.{Manifest, Aux}
 use Rattle.command_status.specs.declared.status.Status.{Status}
-use Rattle.commands.specs.Devices.{IfBothKnown}
+use Rattle.tree_face.specs.Devices.{IfBothKnown}
 use Rattle.script_runs.specs.declared.fault.ScriptFault.{ScriptFault}
 use Rattle.script_runs.proofs.InSlots.{image_is}
 use Rattle.script_runs.proofs.AskedFor.{AreAsked, are_asked, contains_first, contains_later}

@@ -1,7 +1,7 @@
 -- The command `batch`. It reads its input to the end, and runs the script in it on the session in the files.
 use Rattle.std.specs.Prelude.{◌≡◌, ℕ, Vec, Result, Ok, Err, IfOk}
 use Rattle.std.specs.declared.alloc.Global.{Global}
-use Rattle.commands.specs.Devices.{DeviceStates}
+use Rattle.tree_face.specs.Devices.{DeviceStates}
 use Rattle.tree_face.specs.Stream.{ReadsAll, SinkState, SourceState}
 use Rattle.tree_face.specs.declared.disk.Tag.{Tag}
 use Rattle.tree_face.specs.declared.stream.ReadFault.{ReadFault}

@@ -2,7 +2,7 @@
 use Rattle.std.specs.Prelude.{◌≡◌, ◌⊎◌, ℕ, true, List, [], ◌∷◌, codes, Option, Result, Ok, Err, IfOk, ⊤}
 use Rattle.std.specs.List.{Contains}
 use Rattle.hwcap_dirs.specs.declared.kinds.Scope.TheVariants.{Image}
-use Rattle.commands.specs.Devices.{IfBothKnown}
+use Rattle.tree_face.specs.Devices.{IfBothKnown}
 use Rattle.ldconfig_core.specs.Outcome.{new_manifest}
 use Rattle.ldconfig_core.specs.Repair.{IsImageIn, LeavesOnly, MightBeLeft}
 use Rattle.lib_types.specs.Counts.{HasRisen}

@@ -1,6 +1,6 @@
 -- The command `update`. It does what a script of the single line `update` does with the session in the files.
 use Rattle.std.specs.Prelude.{◌≡◌}
-use Rattle.commands.specs.Devices.{DeviceStates}
+use Rattle.tree_face.specs.Devices.{DeviceStates}
 use Rattle.tree_face.specs.Stream.{SinkState}
 use Rattle.tree_face.specs.declared.disk.Tag.{Tag}
 use Rattle.command_status.specs.Status.{EndsWith}

@@ -1,6 +1,6 @@
 //! The command `batch`.
 ghost use Rattle.std.specs.Prelude.{◌≡◌};
-ghost use Rattle.commands.specs.Devices as devices;
+ghost use Rattle.tree_face.specs.Devices as devices;
 ghost use Rattle.script_runs.specs.Batch.{BatchRun, RunsInput, of_read};
 ghost use Rattle.script_runs.specs.Run.{lines_of};
 ghost use Rattle.script_runs.specs.Stored.{RunsStored};

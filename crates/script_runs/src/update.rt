@@ -1,6 +1,6 @@
 //! The command `update`.
 ghost use Rattle.std.specs.Prelude.{◌≡◌};
-ghost use Rattle.commands.specs.Devices as devices;
+ghost use Rattle.tree_face.specs.Devices as devices;
 ghost use Rattle.script_runs.specs.Stored.{RunsStored, one_update};
 ghost use Rattle.script_runs.specs.UpdateCommand.{UpdateRun};
 ghost use Rattle.tree_face.specs.Stream.{SourceState};

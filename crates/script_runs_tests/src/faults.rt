@@ -2,7 +2,7 @@
 use crate::script::{CALLS, UPDATES, devices_of, is_after, may_be_left, reports, sure, text_of};
 use command_runs::Status;
 use command_runs_fixture::{Devices, NarrowSink, Setting, run_into, run_script};
-use commands::Command;
+use command_words::Command;
 use std::alloc::Global;
 use std::process::Abort;
 use std::test::Fail;

@@ -94,7 +94,7 @@ module _ (scope : Scope) (held : Contents) (t : Nodes) (whole : IsWhole t) (conf
         pub found_more : IsFound scope held more loaded found tree
         found_more = is_found scope more loaded search search_of_more found tree p (Some held) searched_more f
 
-        settled_more : IsSettled (judged scope (info_wanted scope held more loaded)) more (places_in scope held more) (planned_in scope held more loaded)
+        pub settled_more : IsSettled (judged scope (info_wanted scope held more loaded)) more (places_in scope held more) (planned_in scope held more loaded)
         settled_more =
             subst (λ (n : Nodes). IsSettled (judged scope (info_wanted scope held more loaded)) more (places_in scope held more) n) found_more.tree_is
             (settled scope more loaded search (Some held) searched_more tree p.settled)

@@ -358,11 +358,11 @@ module _ (scope : Scope) (held : Contents) (t part : Nodes) (loaded : List Stamp
       unfolding planned_in links_in
       whole_more = whole_planned t whole what named (places_in scope held t) dirs_there
 
-      table_wanted : AgreeOn (wanted (planned_in scope held t loaded) (places_in scope held t)) (judged scope (info_files scope held t loaded)) table
+      pub table_wanted : AgreeOn (wanted (planned_in scope held t loaded) (places_in scope held t)) (judged scope (info_files scope held t loaded)) table
       table_wanted path there =
           first path (ap (λ paths. is_in paths path) wanted_are ∙ ap (λ paths. is_in paths path) (sym wanted_stay) ∙ there) ∙ wanted_agree path there
 
-      table_reached : AgreeOn (reached (planned_in scope held t loaded) (places_in scope held t)) (judged scope (info_files scope held t loaded)) table
+      pub table_reached : AgreeOn (reached (planned_in scope held t loaded) (places_in scope held t)) (judged scope (info_files scope held t loaded)) table
       unfolding reached_in
       table_reached path there = next path (ap (λ paths. is_in paths path) reached_are ∙ there) ∙ reached_agree path there
 

@@ -20,4 +20,5 @@ pub mod Sorted
 pub mod Stack
 pub mod Tops
 pub mod WithoutRepeats
+pub mod Words
 pub mod Written

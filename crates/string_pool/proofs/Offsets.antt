@@ -141,7 +141,7 @@ module _ (ts : List (List ℕ)) (t : List ℕ) (s : List ℕ) (there : slice_get
   first_is_host : first_ending_in ts t ≡ s
   first_is_host = ap (λ o. unwrap_or o t) place.found
 
-  -- the table up to the text's host ends behind the text and its NUL
+  -- the table up to the text's host ends after the text and its NUL
   pub offset_at : length (table_to ts (host_of ts t + 1)) ≡ shared_offset ts t + length t + 1
   offset_at =
       let front = front_of t s ends in

@@ -6,7 +6,7 @@ use Rattle.std.specs.Cmp.{IsStrictWeakOrder}
 use Rattle.std.specs.Ordering.{is_gt, is_lt, ordering_reverse}
 use Rattle.std.proofs.lemmas.Cmp.{nat_list_cmp_total}
 use Rattle.std.proofs.lemmas.List.{length-append}
-use Rattle.std.proofs.lemmas.List.Sorted.{All-permutation, Contains-permutation, ranks_by, sorted_far}
+use Rattle.std.proofs.lemmas.List.Sorted.{All-permutation, Contains-permutation, IsPermutation-trans, ranks_by, sorted_far}
 use Rattle.std.proofs.lemmas.Option.{get_or_from_slice_get, slice_get-get_or, slice_get_within}
 use Rattle.lib_types.proofs.SortedPairs.{by_ordering}
 use Rattle.string_pool.specs.Backward.{AreBackward, AreNumbered, HasItem, IsNumbered, back_cmp, falling, falling-total}
@@ -78,3 +78,8 @@ module _ (ts : List (List ℕ)) (items sorted : List Numbered) (h : AreNumbered 
         let low : is_lt (back_cmp x.text.now y.text.now) ≡ false = (rw (at_x, at_y) at far) in
         sym (turned x.text.now y.text.now) ∙ low;
   }
+
+-- the same if the items are ranked before
+pub ranked_backward : (ts : List (List ℕ)) (items ranked sorted : List Numbered) → AreNumbered ts items → IsPermutation items ranked → IsPermutation ranked sorted
+    → IsSorted falling sorted → AreBackward ts sorted
+ranked_backward ts items ranked sorted h first then up = sorted_backward ts items sorted h (IsPermutation-trans items ranked sorted first then) up

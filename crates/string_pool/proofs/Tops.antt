@@ -36,13 +36,13 @@ module _ (a b : List ℕ) (i j x y : ℕ) (low_i : 0 < i) (high_i : i ≤ length
       (λ tied. absurd (other (nat_same x y tied)))
       (λ greater. rw greater refl))
 
-less_is : (x y : ℕ) → x < y → nat_cmp x y ≡ Less
+pub less_is : (x y : ℕ) → x < y → nat_cmp x y ≡ Less
 less_is x y h = by_ordering (nat_cmp x y)
     (λ less. less)
     (λ tied. absurd (omega (arith, h, nat_same x y tied)))
     (λ greater. absurd (omega (arith, h, subst (λ o. MatchOrdering o (x < y) (x ≡ y) (y < x)) greater (ranked x y (nat_cmp x y) refl))))
 
-more_is : (x y : ℕ) → y < x → nat_cmp x y ≡ Greater
+pub more_is : (x y : ℕ) → y < x → nat_cmp x y ≡ Greater
 more_is x y h = flipped nat_cmp_total y x Less (less_is y x h)
 
 -- if one text is used up, the longer one is greater

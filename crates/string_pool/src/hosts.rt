@@ -2,9 +2,10 @@
 ghost use Rattle.std.specs.Prelude.{◌≡◌, ◌^◌, ◌<◌, length, map, reverse, IfOk, None};
 ghost use Rattle.string_pool.specs.Backward.{AreBackward};
 ghost use Rattle.string_pool.specs.Hosts.{AreDifferent, host_of, least, left_below, least_above};
+ghost use Rattle.string_pool.specs.SharedEnds.{ends_in};
 
 use crate::backward::{Numbered, backward};
-use lib_types::NoMemory;
+use lib_types::{NoMemory, are_same};
 use std::alloc::Global;
 
 /// For each text, the number of the first written text that ends in it.
@@ -46,12 +47,20 @@ fn take_ending_in(stack: &mut Vec<Numbered<'_>>, text: &[u8]) -> Option<u32>
 {
     let mut first = None;
     let mut count = stack.len();
-    while count > 0 && stack[count - 1].text.ends_with(text) {
+    while count > 0 && is_end(text, stack[count - 1].text) {
         first = Some(least(first, stack[count - 1].number));
         count -= 1;
     }
     stack.truncate(count);
     first
+}
+
+// Whether the text ends in `end`, or is the same.
+fn is_end(end: &[u8], text: &[u8]) -> bool
+    ensures { result ≡ ends_in end.now text.now }
+{
+    let start = text.len().saturating_sub(end.len());
+    are_same(end, &text[start..])
 }
 
 // The least of the numbers.

@@ -1,5 +1,6 @@
 pub mod Calls
 pub mod Crash
+pub mod Devices
 pub mod Disk
 pub mod DiskUse
 pub mod Failures

@@ -5,7 +5,7 @@ use Rattle.rpath_search.specs.Places.{env_for}
 use Rattle.rpath_search.specs.declared.fault.SearchFault.TheVariants.{NoMemory}
 use Rattle.rpath_search.specs.declared.kinds.Env.{Env}
 use Rattle.ldd_resolve.specs.Loading.{Advances, IsSound}
-use Rattle.ldd_resolve.specs.Requests.{IsListed, record_with}
+use Rattle.ldd_resolve.specs.Requests.{IsListed, record_with, scope_in}
 use Rattle.ldd_resolve.specs.Resolving.{inputs_of}
 use Rattle.ldd_resolve.proofs.Advances.{gives_up}
 use Rattle.ldd_resolve.proofs.Objects.{failing, fails_as}
@@ -34,7 +34,7 @@ returns g c =
     let st = g.S.Store.state c.args.store.now in
     let after = g.S.Store.state c.answer_all.new.store in
     λ keys. subst (λ (e : Env). Advances st.held (inputs_of c.args.tree.now (option_copied c.args.cache) e) (record_with c.args.program keys) (failing c.in-Err.fault) (λ r2. Unit {0}) st after)
-    c.in_ok-env.ensures (fails_as st.held _ (record_with c.args.program keys) (λ r2. IsListed r2 c.answer_all.new.loading.members.items c.answer_all.new.loading.items) st after c.in-Err.fault
+    c.in_ok-env.ensures (fails_as st.held _ (record_with c.args.program keys) (λ r2. IsListed r2 (scope_in c.answer_all.new.loading)) st after c.in-Err.fault
     ((rw c.in-Err.is at c.answer_all.ensures.answers) (record_with c.args.program keys) (c.in_ok-loading.ensures.matching keys)))
 
 pub returns-in-Ok : goal.returns-in-Ok
@@ -42,5 +42,5 @@ returns-in-Ok g c =
     let st = g.S.Store.state c.args.store.now in
     let after = g.S.Store.state c.answer_all.new.store in
     λ keys. rw c.from_vec.ensures (subst (λ (e : Env). Advances st.held (inputs_of c.args.tree.now (option_copied c.args.cache) e) (record_with c.args.program keys) Complete
-    (λ r2. IsListed r2 c.answer_all.new.loading.members.items c.answer_all.new.loading.items) st after)
+    (λ r2. IsListed r2 (scope_in c.answer_all.new.loading)) st after)
     c.in_ok-env.ensures ((rw c.in-Ok.is at c.answer_all.ensures.answers) (record_with c.args.program keys) (c.in_ok-loading.ensures.matching keys)))

@@ -104,7 +104,7 @@ returns-clause-held g c =
     let leads : program_at t c.args.program.now ≡ Some p.real = search rules in
     let st = g.S.Store.state c.args.store.now in
     let reads = rw (c.in_ok-object.was, c.as_bytes-2.ensures) at c.read_program.ensures.reads in
-    none_lacking t (option_copied c.args.cache) c.args.program.now c.args.env.now p spelled leads (λ r. IsListed r c.in_ok-scope.scope.members c.in_ok-scope.scope.listing) st
+    none_lacking t (option_copied c.args.cache) c.args.program.now c.args.env.now p spelled leads (λ r. IsListed r c.in_ok-scope.scope) st
     (g.S.Store.state c.read_program.new.store) (g.S.Store.state c.load.new.store) st.held (rw c.as_bytes-2.ensures at c.in_ok-object.ensures.held) reads
     ((rw (c.in_ok-scope.was, reads.held) at c.load.ensures) (file_keys t (p.real ∷ [])))
 
@@ -116,6 +116,6 @@ returns-clause-reads g c =
     let leads : program_at t c.args.program.now ≡ Some p.real = search rules in
     let st = g.S.Store.state c.args.store.now in
     let reads = rw (c.in_ok-object.was, c.as_bytes-2.ensures) at c.read_program.ensures.reads in
-    listing_read t (option_copied c.args.cache) c.args.program.now c.args.env.now p spelled leads (λ r. IsListed r c.in_ok-scope.scope.members c.in_ok-scope.scope.listing) Complete st
+    listing_read t (option_copied c.args.cache) c.args.program.now c.args.env.now p spelled leads (λ r. IsListed r c.in_ok-scope.scope) Complete st
     (g.S.Store.state c.read_program.new.store) (g.S.Store.state c.load.new.store) st.held (rw c.as_bytes-2.ensures at c.in_ok-object.ensures.object)
     (rw c.as_bytes-2.ensures at c.in_ok-object.ensures.held) reads ((rw (c.in_ok-scope.was, reads.held) at c.load.ensures) (file_keys t (p.real ∷ []))) (λ r listed. listed.all)

@@ -1,4 +1,4 @@
-use Rattle.std.proofs.Common.{rules, ◌≡◌, ◌∙◌, Err, length, refl, sym}
+use Rattle.std.proofs.Common.{rules, ◌≡◌, Err, length, sym}
 use Rattle.std.proofs.lemmas.List.{length-map}
 use Rattle.root_links.proofs.Made.{all_made, links_fail, some_made}
 use Rattle.root_links.proofs.Results.{if_err_by, on_ok_by}

@@ -1,7 +1,6 @@
 use Rattle.std.proofs.Common.{rules, ◌≡◌, ◌+◌, subst, drop}
 use Rattle.root_tree.proofs.Listing.{listing_full, listing_on, next_name, read_ok}
 use Rattle.root_tree.specs.SoFar.{IsFullAt, IsListing, seen, so_far}
-use Rattle.root_tree.specs.declared.fault.TreeRead.TheVariants as reads
 use Rattle.image_tree.specs.Paths.{join}
 use Rattle.tree_face.specs.Known.{IfKnown}
 use Rattle.root_tree.proofs.looking.list.Goals as goal

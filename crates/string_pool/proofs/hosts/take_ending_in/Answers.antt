@@ -6,7 +6,7 @@ use Rattle.string_pool.specs.SharedEnds.{ends_in}
 use Rattle.string_pool.specs.declared.backward.Numbered.{Numbered}
 use Rattle.string_pool.proofs.Popped.{taken_left, taken_least, stays_left, stays_least, empty_left, empty_least}
 use Rattle.string_pool.proofs.hosts.take_ending_in.Goals as goal
-use Rattle.string_pool.proofs.hosts.take_ending_in.Goals.{then-loop-count-test+else-ends_with, else-loop-count-test}
+use Rattle.string_pool.proofs.hosts.take_ending_in.Goals.{then-loop-count-test+else-is_end, else-loop-count-test}
 
 pub loop-count-init : goal.loop-count-init
 loop-count-init c =
@@ -24,7 +24,7 @@ loop-count-preserved c =
     let high : n ≤ length stack = c.loop-count.invariant.0 in
     let within : n - 1 < length stack = omega (arith, low, high) in
     let same : c.index.result.now ≡ top = c.index.ensures ∙ get_or_default stack (n - 1) c.index.result.now top within ∙ sym c.index-in-loop-count.ensures in
-    let ends : ends_in t top.text.now ≡ true = sym (ap (λ (b : Numbered). ends_in t b.text.now) same) ∙ sym c.ends_with.ensures.value ∙ c.if-ends_with.true in (
+    let ends : ends_in t top.text.now ≡ true = sym (ap (λ (b : Numbered). ends_in t b.text.now) same) ∙ sym c.is_end.ensures ∙ c.if-is_end.true in (
       omega (arith, high),
       taken_left t stack n top low high c.index-in-loop-count.ensures ends ∙ c.loop-count.invariant.1,
       ap (λ (r : ℕ). least_above t (Some r) (reverse (take (n - 1) stack))) c.least.ensures
@@ -33,9 +33,9 @@ loop-count-preserved c =
 
 pub returns-clause-left : goal.returns-clause-left
 returns-clause-left c = elim c.loop-count-test.branch [
-  | then-loop-count-test+else-ends_with w ↦
+  | then-loop-count-test+else-is_end w ↦
       ap reverse c.truncate.ensures.items
-      ∙ stays_left c.args.text.now c.args.stack.now.items c.loop-count.count w.index.result.now w.loop-count-test.true c.loop-count.invariant.0 w.index.ensures (sym w.ends_with.ensures.value ∙ w.if-ends_with.false)
+      ∙ stays_left c.args.text.now c.args.stack.now.items c.loop-count.count w.index.result.now w.loop-count-test.true c.loop-count.invariant.0 w.index.ensures (sym w.is_end.ensures ∙ w.if-is_end.false)
       ∙ c.loop-count.invariant.1
   | else-loop-count-test w ↦
       ap reverse c.truncate.ensures.items
@@ -45,8 +45,8 @@ returns-clause-left c = elim c.loop-count-test.branch [
 
 pub returns-clause-number : goal.returns-clause-number
 returns-clause-number c = elim c.loop-count-test.branch [
-  | then-loop-count-test+else-ends_with w ↦
-      stays_least c.args.text.now c.args.stack.now.items c.loop-count.count w.index.result.now w.loop-count-test.true c.loop-count.invariant.0 w.index.ensures c.loop-count.first (sym w.ends_with.ensures.value ∙ w.if-ends_with.false)
+  | then-loop-count-test+else-is_end w ↦
+      stays_least c.args.text.now c.args.stack.now.items c.loop-count.count w.index.result.now w.loop-count-test.true c.loop-count.invariant.0 w.index.ensures c.loop-count.first (sym w.is_end.ensures ∙ w.if-is_end.false)
       ∙ c.loop-count.invariant.2
   | else-loop-count-test w ↦
       empty_least c.args.text.now c.args.stack.now.items c.loop-count.count c.loop-count.first w.loop-count-test.false

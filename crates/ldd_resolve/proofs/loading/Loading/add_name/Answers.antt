@@ -8,6 +8,7 @@ pub returns : goal.returns
 returns c =
     let copy : c.in_ok-copy_of.field-0 ≡ c.args.name = search rules in
     on_ok c.add_name_at.result (λ named. record {
+      found = c.in_ok-push.ensures.done;
       names = λ x.
           ap (λ l. is_among l x) c.in_ok-insert.ensures.done
           ∙ among_inserted c.args.self.now.names c.in_ok-copy_of.field-0 x

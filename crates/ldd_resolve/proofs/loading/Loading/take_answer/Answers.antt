@@ -11,7 +11,7 @@ use Rattle.ldd_resolve.proofs.loading.Loading.take_answer.Goals as goal
 pub returns-in-Some-Loaded : goal.returns-in-Some-Loaded
 returns-in-Some-Loaded c = record {
   matching = on_ok c.add_name.result (λ adds r r2 q rest matching outcome next name chain.
-      loaded_matches c.args.env.now r r2 c.args.self.now c.add_name.new.self (suc c.args.loader) q rest matching next c.in-Some-Loaded.number
+      loaded_matches c.args.env.now r r2 c.args.self.now c.add_name.new.self (suc c.args.loader) q rest matching next c.in-Some-Loaded.number c.in-Some-Loaded.path
       (rw (c.in-Some-Loaded.is, c.in-Some-Loaded.field-0-is) at outcome) c.requires.distinct (rw name c.requires.unknown) (rw name adds)) c.add_name.ensures;
   sound = λ known t abi sound good. on_ok c.add_name.result (λ adds. sound_same known t abi c.args.self.now c.add_name.new.self sound adds.places
       (ap length (adds.members (record { path = []; real = []; names = [] })) ∙ length-set c.args.self.now.members.items c.in-Some-Loaded.number _)) c.add_name.ensures;
@@ -28,7 +28,7 @@ returns-in-Some-New c = record {
       let few : suc c.args.loader ≤ length r.objects = omega (arith, within, all) in
       let one : 1 ≤ length r.objects = omega (arith, few) in
       found_matches c.args.env.now r r2 c.args.self.now c.add_found.new.self (suc c.args.loader) q rest matching next f c.args.loader
-      out.0 out.1 chain c.requires.loader few one (rw name adds)) c.add_found.ensures;
+      out.0.0 out.0.1 out.1 chain c.requires.loader few one (rw name adds)) c.add_found.ensures;
   sound = λ known t abi sound good.
       let f = c.in-Some-New.found in
       let fine : IsSoundAnswer known t abi (Some (answer.New f)) = rw (c.in-Some-New.is, c.in-Some-New.field-0-is) at good in
@@ -47,7 +47,7 @@ pub returns-in-None : goal.returns-in-None
 returns-in-None c = record {
   matching = on_ok c.add_missing.result (λ adds r r2 q rest matching outcome next name chain.
       let out : HasOutcome r q None r2 = rw c.in-None.is at outcome in
-      missing_matches c.args.env.now r r2 c.args.self.now c.add_missing.new.self (suc c.args.loader) q rest matching next out.0 out.1 adds.loaders adds.places adds.names adds.members adds.pending
+      missing_matches c.args.env.now r r2 c.args.self.now c.add_missing.new.self (suc c.args.loader) q rest matching next out.0.0 out.0.1 out.1 adds.found adds.loaders adds.places adds.names adds.members adds.pending
       (rw name adds.missing) (rw name adds.items)) c.add_missing.ensures;
   sound = λ known t abi sound good. on_ok c.add_missing.result (λ adds. sound_same known t abi c.args.self.now c.add_missing.new.self sound adds.places (ap length adds.members)) c.add_missing.ensures;
   grows = on_ok c.add_missing.result (λ adds. record {

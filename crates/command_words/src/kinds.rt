@@ -1,0 +1,54 @@
+//! The commands.
+use lib_types::{Abi, Text, Texts};
+use tree_face::Tag;
+
+/// What is looked up in the cache.
+#[derive(Drop)]
+pub struct Lookup {
+    pub name: Text,
+    pub abi: Abi,
+    /// The hwcaps names that the processor has, the preferred one first.
+    pub caps: Texts,
+}
+
+/// How the answer for programs is written.
+#[derive(Clone, Copy, Debug, PartialEq, Eq)]
+pub enum Form {
+    /// The libraries of each program, as ldd(1) lists them.
+    Listing,
+    /// `--list`: the files that all programs need, each path ended by this byte.
+    Files { end: u8 },
+}
+
+/// The programs whose libraries are listed, and what the loader is given beside the files.
+#[derive(Drop)]
+pub struct Resolve {
+    /// The programs' paths in the image.
+    pub paths: Texts,
+    /// The hwcaps names that the processor has, the preferred one first.
+    pub caps: Texts,
+    /// `LD_LIBRARY_PATH`; empty, if there is none.
+    pub library_path: Text,
+    /// The value of `$PLATFORM`.
+    pub platform: Text,
+    /// Whether the programs run in secure execution, as a set-user-ID program does.
+    pub secure: bool,
+    pub form: Form,
+}
+
+/// A command of the program.
+#[derive(Drop)]
+pub enum Command {
+    /// To write the cache of the image, by way of the temporary files of this tag.
+    Update { tag: Tag },
+    /// To take the script of edits and updates on the input, by way of the temporary files of this tag.
+    Batch { tag: Tag },
+    /// To update images of `n` synthetic libraries, held in memory.
+    Sample { n: u16 },
+    /// To print the cache.
+    Print,
+    /// To look up a name in the cache.
+    Lookup(Lookup),
+    /// To list the libraries that programs load.
+    Resolve(Resolve),
+}

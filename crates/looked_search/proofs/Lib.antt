@@ -1,0 +1,7 @@
+mod Added
+mod Entries
+mod Finds
+mod GivenDirs
+mod Reading
+mod TreeSeen
+mod Winners

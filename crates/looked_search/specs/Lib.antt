@@ -1,0 +1,4 @@
+pub mod Faults
+pub mod Finding
+pub mod Sonames
+pub mod Tree

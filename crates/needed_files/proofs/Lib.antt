@@ -1,0 +1,3 @@
+mod InTurn
+mod Named
+mod Reading

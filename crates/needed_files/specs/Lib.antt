@@ -1,0 +1,3 @@
+pub mod Interpreters
+pub mod Needed
+pub mod Printed
