@@ -8,13 +8,13 @@ _ldconfig_image() {
     *:--manifest | *:-o | *:--aux-cache) compopt -o filenames; mapfile -t COMPREPLY < <(compgen -f -- "$current"); return ;;
     ldconfig-image:-C) [ "${COMP_WORDS[1]}" != -p ] || mapfile -t COMPREPLY < <(compgen -f -- "$current"); return ;;
     ldconfig-image:-r) compopt -o filenames; mapfile -t COMPREPLY < <(compgen -d -- "$current"); return ;;
-    *:--exclude | *:--tag | *:--platform | *:--library-path | ldconfig-image:-f) return ;;
+    *:--exclude | *:--contents | *:--device | *:--tag | *:--platform | *:--library-path | ldconfig-image:-f) return ;;
     esac
     if [ -z "$words" ]; then
         case $command:$current in
         ldconfig-image:*)
             if [ "$COMP_CWORD" = 1 ]; then
-                words='-r -n update batch sample print -p lookup resolve --help'
+                words='-r -n update batch layers sample print -p lookup resolve --help'
             else
                 case ${COMP_WORDS[1]} in
                 -n)
@@ -23,14 +23,14 @@ _ldconfig_image() {
                     ;;
                 -r) words='-n -N -X -f -C -v --aux-cache -i --check' ;;
                 update | batch) words='--tag' ;;
-                print) words='-r' ;;
+                print) words='--json -r' ;;
                 -p) words='-r -C' ;;
-                lookup) words='--abi --caps -r' ;;
-                resolve) words='--caps --library-path --platform --secure --list -0 -r' ;;
+                lookup) words='--abi --caps --json -r' ;;
+                resolve) words='--caps --library-path --platform --secure --list -0 --json -r' ;;
                 esac
             fi
             ;;
-        image-manifest:-*) words='-o --identities --exclude --one-file-system --no-one-file-system --help' ;;
+        image-manifest:-*) words='-o --identities --contents --device --exclude --one-file-system --no-one-file-system --help' ;;
         update-image:-*) words='--dry-run --manifest --exclude --one-file-system --links-only --cache-only --verbose --help' ;;
         check-image:-*) words='--manifest --exclude --one-file-system --help' ;;
         *) compopt -o filenames; mapfile -t COMPREPLY < <(compgen -d -- "$current"); return ;;

@@ -24,8 +24,9 @@ WORDS = {
     "aux": [AUX_MAGIC, OLD_AUX_MAGIC, b"\0", b"libz.so.1\0"],
     "name": [b"..", b".", b"\n", b"\033[2J", b" ", b"\\", b"*", b"\xff", b"\xc3\xa9", b"9" * 10, b"x" * 200, b".so", b"lib", b".#prelink#", b";", b":"],
 }  # fmt: skip
+WORDS["layer"] = [*WORDS["manifest"], b".wh.", b".wh..wh..opq", b".wh..", b"./.wh.usr\n", b"./usr/lib/.wh.libz.so.1.2\n", b"./usr/lib/.wh..wh..opq type=file\n"]
 # Texts, whose lines are changed too.
-LINES = ("manifest", "conf", "script")
+LINES = ("manifest", "layer", "conf", "script")
 
 
 def some(chance, most):

@@ -271,7 +271,7 @@ class Traced:
             number, _, rest = path.removeprefix("/proc/self/fd/").partition("/")
             return os.path.normpath(f"{self.path_of(int(number))}/{rest}") if rest else f"{path}"
         if path.startswith("/"):
-            return path
+            return os.path.normpath(path)
         base = os.readlink(f"/proc/{self.pid}/cwd") if folder % 2**32 == AT_FOLDER else self.path_of(folder)
         return os.path.normpath(f"{base}/{path}")
 

@@ -7,7 +7,7 @@ import re
 import stat
 import sys
 
-from image_facts import LONGEST_NAME, LONGEST_PATH, LONGEST_TARGET
+from image_facts import LONGEST_KEY, LONGEST_NAME, LONGEST_PATH, LONGEST_TARGET
 from mtree_model import escape
 
 # A message names the command as it was called: an installation calls tools/manifest image-manifest.
@@ -66,10 +66,11 @@ class Excluded:
 class Walk:
     """A walk through the current directory. Paths are relative to it, so each path that a manifest can have can be opened."""
 
-    def __init__(self, exclude=(), one_file_system=None, identities=False, own=None):
+    def __init__(self, exclude=(), one_file_system=None, identities=False, own=None, contents=None, device=None):
         """`one_file_system` is whether directories of other file systems are listed without their content: at any depth if it is true, directly
-        below the directory if it is None. `own` is the device and inode of the output if it is a file, which gets no line."""
-        self.identities, self.one_file_system, self.own = identities, one_file_system, own
+        below the directory if it is None. `own` is the device and inode of the output if it is a file, which gets no line. `contents` is what
+        the key of each file has before its path, and `device` a device in place of that of the files."""
+        self.identities, self.one_file_system, self.own, self.contents, self.device_of_files = identities, one_file_system, own, contents, device
         self.excluded = Excluded(exclude)
         self.device = os.stat(".").st_dev
         self.unread = False
@@ -111,10 +112,22 @@ class Walk:
                 return b" type=link link=" + escape(target)
             self.say(path, f"a link to a target of {len(target)} bytes, not 1 to {LONGEST_TARGET}: left out")
         elif stat.S_ISREG(state.st_mode) and (state.st_dev, state.st_ino) != self.own:
-            # A manifest has no numbers below 0, so a file with a ctime before 1970 has no identity.
-            if not self.identities or state.st_ctime_ns < 0:
-                return b" type=file"
-            return b" type=file dev=%d inode=%d ctime=%d size=%d" % (state.st_dev, state.st_ino, state.st_ctime_ns, state.st_size)
+            return self.file_keywords(path, state)
+        return None
+
+    def file_keywords(self, path, state):
+        """The keywords of a regular file, or None if its key is too long."""
+        words = b" type=file"
+        # A manifest has no numbers below 0, so a file with a ctime before 1970 has no identity.
+        if self.identities and state.st_ctime_ns >= 0:
+            device = state.st_dev if self.device_of_files is None else self.device_of_files
+            words += b" dev=%d inode=%d ctime=%d size=%d" % (device, state.st_ino, state.st_ctime_ns, state.st_size)
+        if self.contents is None:
+            return words
+        key = self.contents.rstrip(b"/") + b"/" + path
+        if len(key) <= LONGEST_KEY:
+            return words + b" contents=" + escape(key)
+        self.say(path, f"contents of more than {LONGEST_KEY} bytes: left out")
         return None
 
     def node(self, path):

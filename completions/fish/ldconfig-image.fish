@@ -22,6 +22,7 @@ complete -c ldconfig-image -n __ldconfig_image_needs_command -l help -d 'Print t
 complete -c ldconfig-image -n __ldconfig_image_updates -s X -d 'Make no links'
 complete -c ldconfig-image -n __ldconfig_image_needs_command -a update -d 'Plan links and write the cache'
 complete -c ldconfig-image -n __ldconfig_image_needs_command -a batch -d 'Take edits and updates from the input'
+complete -c ldconfig-image -n __ldconfig_image_needs_command -a layers -d 'Update the image that layers make'
 complete -c ldconfig-image -n __ldconfig_image_needs_command -a sample -d 'Update synthetic images in memory'
 complete -c ldconfig-image -n __ldconfig_image_needs_command -a print -d 'Print the cache'
 complete -c ldconfig-image -n __ldconfig_image_needs_command -s p -d 'Print the cache'
@@ -35,3 +36,4 @@ complete -c ldconfig-image -n '__fish_seen_subcommand_from resolve' -l platform 
 complete -c ldconfig-image -n '__fish_seen_subcommand_from resolve' -l secure -d 'As in secure execution'
 complete -c ldconfig-image -n '__fish_seen_subcommand_from resolve' -l list -d 'List the files that the programs need'
 complete -c ldconfig-image -n '__fish_seen_subcommand_from resolve' -s 0 -d 'End the paths of a list by NUL'
+complete -c ldconfig-image -n '__fish_seen_subcommand_from print lookup resolve' -l json -d 'Write JSON'

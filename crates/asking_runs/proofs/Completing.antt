@@ -7,7 +7,7 @@ use Rattle.tree_face.specs.Devices.{DeviceStates, IfBothKnown}
 use Rattle.cache_reader.specs.Cache.{CachedEntry}
 use Rattle.cache_reader.specs.declared.defect.CacheDefect.{CacheDefect}
 use Rattle.command_words.specs.declared.kinds.Form.{Form}
-use Rattle.command_words.specs.declared.kinds.Form.TheVariants.{Files, Listing}
+use Rattle.command_words.specs.declared.kinds.Form.TheVariants.{Files, Json, Listing}
 use Rattle.command_words.specs.declared.kinds.Resolve.{Resolve}
 use Rattle.elf_interpreter.specs.Faults.{interpreter_ending}
 use Rattle.elf_interpreter.specs.declared.fault.InterpreterFault.{InterpreterFault}
@@ -38,11 +38,11 @@ use Rattle.lib_types.specs.Counts.{HasRisen}
 use Rattle.command_status.specs.Ending.{AnswerText, EndsAs, answered, first_status}
 use Rattle.command_status.specs.declared.status.Status.{Status}
 use Rattle.command_status.specs.declared.status.Status.TheVariants.{Done, Missing, NoMemory}
-use Rattle.asking_runs.specs.AskCache.{CacheAnswer, answer_of}
+use Rattle.asking_runs.specs.AskCache.{CacheAnswer, IsMade, answer_of}
 use Rattle.asking_runs.specs.Complete.{Completes, NoFault}
 use Rattle.asking_runs.specs.Faults.{of_cache, of_list}
 use Rattle.asking_runs.proofs.Listing.{all_held, all_more, inside, keys_held, lacking, none_faulty, stopped_by_memory}
-use Rattle.asking_runs.specs.Listings.{files_answer, first_fault, listings_answer}
+use Rattle.asking_runs.specs.Listings.{files_answer, first_fault, json_answer, listings_answer}
 use Rattle.asking_runs.specs.Resolve.{AnswersAs, AnswersImage, AnswersScopes, CompletesListing, HaveListings, IsAnswer, IsAnswerable, IsFilesAnswer, ListsImage, ListsPrograms, ListsWith, cache_of, env_of}
 use Rattle.asking_runs.specs.declared.fault.CacheFault.{CacheFault}
 use Rattle.asking_runs.specs.declared.fault.ListFault.{ListFault}
@@ -67,23 +67,30 @@ module _ (old new : DeviceStates) (status : Status) where
   by_answer (Ok answer) ends = λ none. inl (ended answer ends none)
   by_answer (Err fault) ends = tt
 
-  module _ (answer : CacheAnswer) where
+  abbrev EndsMade : Result AnswerText CacheFault → Type 0
+  EndsMade made = EndsAs (result_map_both (λ answer. answer) of_cache made) status old.sink new.sink
+
+  by_made : (r made : Result AnswerText CacheFault) → IsMade r made → EndsMade made → Completes r old new status
+  by_made (Ok answer) made (inl is) ends = by_answer (Ok answer) (subst EndsMade is ends)
+  by_made (Ok answer) made (inr is) ends = λ none. inr (subst EndsMade is ends).0
+  by_made (Err fault) made is ends = tt
+
+  module _ (answer : CacheAnswer) (made : Result AnswerText CacheFault) (ends : EndsMade made) where
     by_content : (known : Option DiskContent) (content : Content) → IfKnown known (λ k. k.now.cache ≡ content)
-        → EndsAs (result_map_both (λ answer. answer) of_cache (answer_of answer (Ok content))) status old.sink new.sink → IfKnown known (λ k. Completes (answer_of answer (Ok k.now.cache)) old new status)
-    by_content None content is ends = tt
-    by_content (Some k) content is ends =
-        by_answer (answer_of answer (Ok k.now.cache)) (subst (λ (c : Content). EndsAs (result_map_both (λ answer. answer) of_cache (answer_of answer (Ok c))) status old.sink new.sink) (sym is) ends)
+        → IsMade (answer_of answer (Ok content)) made → IfKnown known (λ k. Completes (answer_of answer (Ok k.now.cache)) old new status)
+    by_content None content is is_made = tt
+    by_content (Some k) content is is_made =
+        by_made (answer_of answer (Ok k.now.cache)) made (subst (λ (c : Content). IsMade (answer_of answer (Ok c)) made) (sym is) is_made) ends
 
     if_known : (known : Option DiskContent) → (NoFault old new → status ≡ NoMemory) → IfKnown known (λ k. Completes (answer_of answer (Ok k.now.cache)) old new status)
     if_known None gives_up = tt
     if_known (Some k) gives_up = if_ok (answer_of answer (Ok k.now.cache)) (λ answer. NoFault old new → (status ≡ answered answer) ⊎ (status ≡ NoMemory)) (λ answer none. inr (gives_up none))
 
-    pub completes : (read : Result Content SlotFault) → ReadsContent slots.Cache read old.disk new.disk
-        → EndsAs (result_map_both (λ answer. answer) of_cache (answer_of answer read)) status old.sink new.sink
+    pub completes : (read : Result Content SlotFault) → ReadsContent slots.Cache read old.disk new.disk → IsMade (answer_of answer read) made
         → IfKnown old.disk.contents (λ content. Completes (answer_of answer (Ok content.now.cache)) old new status)
-    completes (Ok content) reads ends = by_content old.disk.contents content reads.content ends
-    completes (Err (slot_faults.DiskFailed slot)) reads ends = if_known old.disk.contents (λ none. absurd (failed _ _ none.disk reads.reads.cause))
-    completes (Err slot_faults.NoMemory) reads ends = if_known old.disk.contents (λ none. ends.0)
+    completes (Ok content) reads is = by_content old.disk.contents content reads.content is
+    completes (Err (slot_faults.DiskFailed slot)) reads is = if_known old.disk.contents (λ none. absurd (failed _ _ none.disk reads.reads.cause))
+    completes (Err slot_faults.NoMemory) reads is = if_known old.disk.contents (λ none. (subst EndsMade is ends).0)
 
   -- ---- a command that reads an image
 
@@ -120,6 +127,7 @@ module _ (old new : DeviceStates) (status : Status) where
 
         by_form : (form : Form) (answer : Result AnswerText ListFault) → between.held ≡ Some held → AnswersAs form tree ps answer between new.store → EndsBy answer → Ends
         by_form Listing answer known answers ends = by_text (listings_answer ps) answer (whole (rw answers.1 (omega arith))) answers.0 ends
+        by_form Json answer known answers ends = by_text (json_answer ps) answer (whole (rw answers.1 (omega arith))) answers.0 ends
         by_form (Files end) answer known answers ends =
             by_files end answers.needed answer (subst (λ (h : Option Contents). ReadsPrograms h (program_keys tree ps) (interpreter_ending answers.needed) between new.store) known answers.reads)
             answers.answer_is ends

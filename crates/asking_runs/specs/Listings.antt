@@ -2,6 +2,7 @@
 use Rattle.std.specs.Prelude.{◌++◌, ◌||◌, ℕ, Bool, false, List, [], ◌∷◌, codes, flat_map, if◌then◌else◌, length, nat_lt, Option, Some, None, is_some, not, Result, Ok, Err}
 use Rattle.std.specs.List.{list_all, list_any}
 use Rattle.std.specs.Option.{option_or}
+use Rattle.std.specs.Result.{result_map_both}
 use Rattle.command_status.specs.Ending.{AnswerText}
 use Rattle.command_status.specs.Status.{of_program, said}
 use Rattle.ldd_resolve.specs.Printed.{listing_text}
@@ -12,6 +13,9 @@ use Rattle.ldd_resolve.specs.declared.kinds.Scope.{Scope}
 use Rattle.needed_files.specs.Printed.{list_text}
 use Rattle.needed_files.specs.declared.files.NeededFiles.{NeededFiles}
 use Rattle.update_report.specs.Lines.{line}
+use Rattle.json_answers.specs.Programs.{programs_data}
+use Rattle.json_answers.specs.Texts.{json_text}
+use Rattle.asking_runs.specs.declared.fault.CacheFault.{CacheFault}
 use Rattle.asking_runs.specs.declared.listings.Listed.{Listed}
 
 -- ---- the text
@@ -64,6 +68,14 @@ listings_answer ps = record {
   fault = first_fault ps;
 }
 
+-- the listings as JSON, which has the faults too
+abbrev pub json_answer : List ProgramScope → AnswerText
+json_answer ps = record {
+  text = json_text (programs_data ps);
+  missing = is_missing ps;
+  fault = first_fault ps;
+}
+
 -- the text has only paths; a path without a program has no line
 abbrev pub files_answer : ℕ → NeededFiles → List ProgramScope → AnswerText
 files_answer end needed ps = record {
@@ -76,3 +88,6 @@ files_answer end needed ps = record {
 
 abbrev pub listed_text : Listed → AnswerText
 listed_text listed = record { text = listed.text.items; missing = listed.is_missing; fault = listed.fault }
+
+abbrev pub cache_listed : Result Listed CacheFault → Result AnswerText CacheFault
+cache_listed result = result_map_both listed_text (λ fault. fault) result

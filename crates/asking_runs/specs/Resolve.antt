@@ -6,7 +6,7 @@ use Rattle.cache_lookup.specs.Sorted.{sorted_in}
 use Rattle.cache_reader.specs.Cache.{CachedEntry}
 use Rattle.cache_reader.specs.declared.defect.CacheDefect.{CacheDefect}
 use Rattle.command_words.specs.declared.kinds.Form.{Form}
-use Rattle.command_words.specs.declared.kinds.Form.TheVariants.{Files, Listing}
+use Rattle.command_words.specs.declared.kinds.Form.TheVariants.{Files, Json, Listing}
 use Rattle.command_words.specs.declared.kinds.Resolve.{Resolve}
 use Rattle.tree_face.specs.Devices.{DeviceStates, IfBothKnown}
 use Rattle.elf_dynamic.specs.Begun.{lacks_one}
@@ -39,7 +39,7 @@ use Rattle.command_status.specs.declared.status.Status.{Status}
 use Rattle.command_status.specs.declared.status.Status.TheVariants.{Done, Missing, NoMemory}
 use Rattle.asking_runs.specs.Complete.{NoFault}
 use Rattle.asking_runs.specs.Faults.{of_interpreter, of_list}
-use Rattle.asking_runs.specs.Listings.{files_answer, listed_text, listings_answer}
+use Rattle.asking_runs.specs.Listings.{files_answer, json_answer, listed_text, listings_answer}
 use Rattle.asking_runs.specs.declared.fault.ListFault.{ListFault}
 use Rattle.asking_runs.specs.declared.fault.ListFault.TheVariants as faults
 use Rattle.asking_runs.specs.declared.listings.Listed.{Listed}
@@ -77,6 +77,7 @@ pub record AnswersFiles (end : ℕ) (tree : Nodes) (ps : List ProgramScope) (ans
 -- the answer for these scopes in this form
 abbrev pub AnswersAs : Form → Nodes → List ProgramScope → Result AnswerText ListFault → StoreState → StoreState → Type 0
 AnswersAs Listing tree ps answer old new = IsAnswer (listings_answer ps) answer × (new ≡ old)
+AnswersAs Json tree ps answer old new = IsAnswer (json_answer ps) answer × (new ≡ old)
 AnswersAs (Files end) tree ps answer old new = AnswersFiles end tree ps answer old new
 
 -- the same, or the fault that ended the search

@@ -47,6 +47,14 @@ impl From<SlotFault> for CacheFault {
     }
 }
 
+impl From<NoMemory> for CacheFault {
+    ghost from_gives = { λ _ e. e ≡ caches.NoMemory };
+
+    fn from(_: NoMemory) -> Self {
+        CacheFault::NoMemory
+    }
+}
+
 impl From<CacheDefect> for CacheFault {
     ghost from_gives = { λ defect e. e ≡ caches.BadCache defect };
 

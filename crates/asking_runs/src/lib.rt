@@ -10,6 +10,6 @@ mod resolve;
 
 pub use fault::ListFault;
 pub use listings::Listed;
-pub use lookup::run_lookup;
-pub use print::{run_print, run_print_named};
+pub use lookup::{looked_up_abi, run_lookup};
+pub use print::{run_print, run_print_json, run_print_named};
 pub use resolve::{list_image, run_resolve};

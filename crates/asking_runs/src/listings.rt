@@ -1,8 +1,9 @@
 //! The answers for several programs, and what they say of the programs.
 ghost use Rattle.std.specs.Prelude.{◌≡◌, ◌++◌, ◌||◌, flat_map, IfOk, OnOk};
-ghost use Rattle.asking_runs.specs.Listings.{body, fault_in, files_answer, first_fault, head, is_missing, is_missing_one, is_whole, listed_text, listings_answer, part};
+ghost use Rattle.asking_runs.specs.Listings.{body, fault_in, files_answer, first_fault, head, is_missing, is_missing_one, is_whole, json_answer, listed_text, listings_answer, part};
 
 use command_status::{Answer, Status, add_fault_line};
+use json_answers::programs_json;
 use ldd_resolve::{Listing, ProgramFault, ProgramScope, ProgramScopes, Scope, listing_text};
 use lib_types::{Failed, NoMemory};
 use needed_files::{NeededFiles, list_text};
@@ -15,7 +16,7 @@ pub struct Listed {
     pub text: Vec<u8>,
     /// Whether a needed name of a program has no path.
     pub is_missing: bool,
-    /// Why there is no program at a path, for the first such path.
+    /// Why a path has no program, for the first such path.
     pub fault: Option<ProgramFault>,
 }
 
@@ -151,6 +152,14 @@ pub(crate) fn listings_for(alloc: Global, programs: &ProgramScopes) -> Result<Li
 {
     let text = text_of(alloc, programs.len() > 1, programs.as_slice())?;
     Ok(answer_with(text, false, programs))
+}
+
+/// The listings of these programs as JSON.
+pub(crate) fn json_for(alloc: Global, programs: &ProgramScopes) -> Result<Listed, NoMemory>
+    ensures { IfOk result (λ listed. listed_text listed ≡ json_answer programs.now) }
+{
+    let json = programs_json(alloc, programs.as_slice())?;
+    Ok(answer_with(json, false, programs))
 }
 
 /// The list of the files that these programs need, each path ended by this byte.

@@ -6,7 +6,7 @@ ghost use Rattle.tree_face.specs.Stream.{SourceState};
 ghost use Rattle.asking_runs.specs.Resolve.{AnswersAs, AnswersFiles, AnswersImage, ListsImage, ListsPrograms, ListsWith, ResolveRun, cache_of, env_of, listed_answer};
 
 use crate::fault::ListFault;
-use crate::listings::{Listed, files_for, listings_for};
+use crate::listings::{Listed, files_for, json_for, listings_for};
 use cache_lookup::{Sorted, sorted_cache};
 use command_status::{Status, end};
 use command_words::{Form, Resolve};
@@ -77,6 +77,7 @@ fn answer_as<S: Store>(
 {
     match form {
         Form::Listing => Ok(listings_for(alloc, scopes)?),
+        Form::Json => Ok(json_for(alloc, scopes)?),
         Form::Files { end } => answer_files(alloc, end, tree, store, scopes),
     }
 }

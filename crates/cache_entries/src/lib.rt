@@ -1,11 +1,11 @@
 //! The entries of a cache: the winner of each soname in a search directory, and its path.
 #![tactic(auto)]
 
-mod contending;
 mod counts;
 mod fault;
 mod links_of;
 mod listing;
+mod reached;
 mod winner;
 mod winners;
 

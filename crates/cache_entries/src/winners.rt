@@ -9,7 +9,7 @@ ghost use Rattle.file_table.specs.Table.{analysis_at};
 ghost use Rattle.cache_entries.specs.Merged.{turn};
 ghost use Rattle.cache_entries.specs.Winner.{winners_in};
 
-use crate::contending::contenders;
+use crate::reached::reached_libraries;
 use crate::winner::link_winners;
 use file_table::Table;
 use lib_types::{NoMemory, compare_bytes};
@@ -118,7 +118,7 @@ pub(crate) fn winners_in<'a>(
     ensures { (t : Nodes) (place : Place) → links.now ≡ folder_links t place → files.now ≡ bests_in (analysis_at table.now) t place
         → IfOk result (λ winners. winners ≡ winners_in (analysis_at table.now) t place) }
 {
-    let links = contenders(alloc, table, files, &links.links)?;
+    let links = reached_libraries(alloc, table, files, &links.links)?;
     Ok(Winners {
         files,
         links: link_winners(alloc, links)?,

@@ -1,3 +1,4 @@
+mod EntryAbis
 mod FirstRise
 mod Halving
 mod Indexed

@@ -1,3 +1,4 @@
+pub mod Abis
 pub mod Probing
 pub mod Scan
 pub mod Searches

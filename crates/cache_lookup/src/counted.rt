@@ -60,8 +60,8 @@ impl<'s, 'a> Counted<'s, 'a> {
     }
 }
 
-// Whether the entry has this name and this ABI.
-fn is_candidate(entry: &EntryView<'_>, name: &[u8], abi: Abi) -> bool
+/// Whether the entry has this name and this ABI.
+pub(crate) fn is_candidate(entry: &EntryView<'_>, name: &[u8], abi: Abi) -> bool
     ensures { result ≡ is_candidate name.now abi (entry_of entry.now) }
 {
     entry.flags == abi.flags() && entry.name == name

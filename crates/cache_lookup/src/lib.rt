@@ -1,6 +1,7 @@
 //! Looks up a name in a cache as the loader does, without allocating memory.
 #![tactic(auto)]
 
+mod abis;
 mod check;
 mod choice;
 mod counted;

@@ -8,7 +8,8 @@ use table_rows::{Differences, Row, Trial, Words, count, divide, list, number, va
 
 /// A row has the entries of a cache, in order. A line `find` has an ABI, hwcaps names between colons (`-` for none), a name, and the path
 /// (`-` for none). `steps` has the most steps that each of these look-ups may take. `rises` has the index of the first entry whose name is
-/// above its predecessor's.
+/// above its predecessor's. `common` has the ABI that all entries with an ABI's flags have (`-` for none), and `has` an ABI, a name and
+/// `yes` or `no`: whether an entry has both.
 pub(crate) struct Lookups;
 
 // The hwcaps names of a list, which is `-` if there is none.
@@ -52,6 +53,58 @@ fn is_found(
     differences.is_same(line, want, path.unwrap_or(b"-"))
 }
 
+// The word of the ABI that all entries have.
+fn is_common(
+    cache: &Sorted<'_>,
+    want: &[u8],
+    differences: &mut Differences,
+) -> Result<bool, NoMemory> {
+    let word = match cache.common_abi() {
+        Some(abi) => abi.row().word,
+        None => b"-",
+    };
+    differences.is_same(b"common", want, word)
+}
+
+// `ABI NAME ANSWER`
+fn is_had(
+    cache: &Sorted<'_>,
+    line: &[u8],
+    differences: &mut Differences,
+) -> Result<bool, NoMemory> {
+    let (word, rest) = divide(b' ', line);
+    let (name, want) = divide(b' ', rest);
+    let Some(abi) = Abi::of_word(word) else {
+        differences.say(b"no ABI: ", word)?;
+        return Ok(false);
+    };
+    let answer: &[u8] = if cache.has_candidate(name, abi) {
+        b"yes"
+    } else {
+        b"no"
+    };
+    differences.is_same(line, want, answer)
+}
+
+// Whether the ABIs of the entries are those of the lines `common` and `has`.
+fn are_abis(
+    cache: &Sorted<'_>,
+    row: Row<'_>,
+    differences: &mut Differences,
+) -> Result<bool, NoMemory> {
+    let mut are_right = true;
+    for line in row {
+        let (word, rest) = divide(b' ', *line);
+        if word == b"common".as_slice() {
+            are_right = is_common(cache, rest, differences)? && are_right;
+        }
+        if word == b"has".as_slice() {
+            are_right = is_had(cache, rest, differences)? && are_right;
+        }
+    }
+    Ok(are_right)
+}
+
 // Whether each line `find` has its result.
 fn are_found(
     alloc: Global,
@@ -77,7 +130,10 @@ fn try_cache(
     differences: &mut Differences,
 ) -> Result<bool, NoMemory> {
     match (sorted(view), value(row, b"rises")) {
-        (Ok(cache), None) => are_found(alloc, &cache, row, differences),
+        (Ok(cache), None) => {
+            let are_abis = are_abis(&cache, row, differences)?;
+            Ok(are_found(alloc, &cache, row, differences)? && are_abis)
+        }
         (Err(unsorted), Some(index)) => {
             differences.is_number(alloc, b"rises", number(index), u64::from(unsorted.entry))
         }
@@ -92,7 +148,7 @@ fn try_cache(
     }
 }
 
-const WORDS: &[Words] = &[ENTRIES, &[b"find", b"steps", b"rises"]];
+const WORDS: &[Words] = &[ENTRIES, &[b"find", b"steps", b"rises", b"common", b"has"]];
 
 impl Trial for Lookups {
     fn words() -> &'static [Words] {

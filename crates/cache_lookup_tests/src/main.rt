@@ -9,6 +9,6 @@ use std::process::ExitCode;
 use table_rows::{status, try_tables};
 
 fn main(rt: HostRuntime) -> io::Result<ExitCode> {
-    let lookups = try_tables::<Lookups>(&rt, &["lookups", "orders", "steps"])?;
+    let lookups = try_tables::<Lookups>(&rt, &["lookups", "orders", "steps", "abis"])?;
     Ok(status(lookups))
 }

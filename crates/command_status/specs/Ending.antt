@@ -11,7 +11,7 @@ pub record AnswerText : Type 0 where
   pub text : List ℕ
   -- whether something that was asked for is missing
   pub missing : Bool
-  -- why there is no program at a path, for the first such path
+  -- why a path has no program, for the first such path
   pub fault : Option ProgramFault
 
 -- the status of the fault, if there is one

@@ -21,7 +21,9 @@ use Rattle.ldd_resolve.specs.declared.kinds.ResolveFault.TheVariants as resolvin
 use Rattle.command_status.specs.CacheFault.{cache_fault}
 use Rattle.command_status.specs.ProgramFault.{program_fault}
 use Rattle.command_status.specs.declared.status.Status.{Status}
-use Rattle.command_status.specs.declared.status.Status.TheVariants.{Done, Missing, Usage, BadManifest, BadScript, NoCache, BadCache, NoProgram, BadProgram, StoreFault, DiskFault, InputFault, OutputFault, NoMemory, TooLong, NoManifest, TooLarge, TooMany}
+use Rattle.command_status.specs.declared.status.Status.TheVariants.{Done, Missing, Usage, BadLayer, BadManifest, BadScript, NoCache, BadCache, NoProgram, BadProgram, StoreFault, DiskFault, InputFault, OutputFault, NoMemory, TooLong, NoManifest, TooLarge, TooMany}
+use Rattle.command_status.specs.declared.status.LayerKind.{LayerKind}
+use Rattle.command_status.specs.declared.status.LayerKind.TheVariants as layer
 use Rattle.command_status.specs.declared.status.ScriptKind.{ScriptKind}
 use Rattle.command_status.specs.declared.status.ScriptKind.TheVariants as script
 
@@ -64,6 +66,14 @@ script_kind_text script.Full = codes "Full"
 
 abbrev pub script_text : ℕ → ScriptKind → List ℕ
 script_text number kind = line (codes "fault: BadScript line " ++ decimal number ++ codes ": " ++ script_kind_text kind)
+
+abbrev pub layer_kind_text : LayerKind → List ℕ
+layer_kind_text (layer.Manifest fault) = codes "Manifest"
+layer_kind_text (layer.Whiteout node) = codes "Whiteout"
+layer_kind_text layer.Full = codes "Full"
+
+abbrev pub layer_text : ℕ → LayerKind → List ℕ
+layer_text number kind = line (codes "fault: BadLayer " ++ decimal number ++ codes ": " ++ layer_kind_text kind)
 
 abbrev pub line_text : ℕ → List ℕ → List ℕ
 line_text number kind = line (codes "fault: BadManifest line " ++ decimal number ++ codes ": " ++ kind)
@@ -109,6 +119,7 @@ row_of NoMemory = silent 14
 row_of (TooLong taken) = saying 15 (line (codes "fault: TooLong"))
 row_of NoManifest = saying 16 (line (codes "fault: NoManifest"))
 row_of (TooLarge nodes bytes) = saying 17 (line (codes "fault: TooLarge"))
+row_of (BadLayer number kind) = saying 19 (layer_text number kind)
 
 abbrev pub code_of : Status → ℕ
 code_of status = (row_of status).code

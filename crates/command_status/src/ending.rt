@@ -23,7 +23,7 @@ pub trait Answer {
     fn is_missing(&self) -> bool
         ensures { result ≡ (answer self.now).missing };
 
-    /// Why there is no program at a path, for the first such path of those that were asked for.
+    /// Why a path has no program, for the first such path of those that were asked for.
     fn fault(&self) -> Option<ProgramFault>
         ensures { result ≡ (answer self.now).fault };
 }

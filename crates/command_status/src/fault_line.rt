@@ -6,9 +6,9 @@ ghost use Rattle.tree_face.specs.Stream.{TakesAll};
 ghost use Rattle.command_status.specs.CacheFault.{cache_fault};
 ghost use Rattle.command_status.specs.FaultLine.{front_bytes, line_bytes};
 ghost use Rattle.command_status.specs.ProgramFault.{program_fault};
-ghost use Rattle.command_status.specs.Status.{kind_text, manifest_text, script_kind_text, script_text};
+ghost use Rattle.command_status.specs.Status.{kind_text, layer_kind_text, layer_text, manifest_text, script_kind_text, script_text};
 
-use crate::status::ScriptKind;
+use crate::status::{LayerKind, ScriptKind};
 use cache_reader::CacheDefect;
 use lib_types::{Defect, Failed, NoMemory};
 use mtree_manifest::{LineKind, ManifestFault};
@@ -91,6 +91,24 @@ pub(crate) fn script_line(line: u64, kind: ScriptKind) -> FaultLine
     ensures { line_bytes result ≡ script_text line kind }
 {
     numbered(b"fault: BadScript line", line, script_kind_text(kind))
+}
+
+// The text after the number of a layer in its fault line.
+fn layer_kind_text(kind: LayerKind) -> &'static [u8]
+    ensures { result.now ≡ codes ": " ++ layer_kind_text kind ++ codes "\n" }
+{
+    match kind {
+        LayerKind::Manifest(_) => b": Manifest\n",
+        LayerKind::Whiteout { .. } => b": Whiteout\n",
+        LayerKind::Full => b": Full\n",
+    }
+}
+
+/// The fault line of a layer that can't be part of an image.
+pub(crate) fn layer_line(layer: u64, kind: LayerKind) -> FaultLine
+    ensures { line_bytes result ≡ layer_text layer kind }
+{
+    numbered(b"fault: BadLayer", layer, layer_kind_text(kind))
 }
 
 /// The fault line of a cache that has a defect.

@@ -8,4 +8,4 @@ mod status;
 
 pub use ending::{Answer, Fault, end};
 pub use output::{add_fault_line, put_fault_line};
-pub use status::{ScriptKind, Status};
+pub use status::{LayerKind, ScriptKind, Status};

@@ -6,7 +6,8 @@ ghost use Rattle.command_status.specs.Row.{row_bytes};
 ghost use Rattle.command_status.specs.Status.{code_of, fault_line, of_load, of_program, of_resolve, of_update, row_of, saying, silent};
 
 use crate::fault_line::{
-    FaultLine, cache_line, manifest_line, numbered, program_line, script_line, unnumbered,
+    FaultLine, cache_line, layer_line, manifest_line, numbered, program_line, script_line,
+    unnumbered,
 };
 use cache_reader::CacheDefect;
 use image_session::LoadFault;
@@ -25,6 +26,17 @@ pub enum ScriptKind {
     /// The path that it removes has no node.
     NotThere,
     /// The tree already has the most nodes that a tree may have.
+    Full,
+}
+
+/// Why a layer can't be part of an image.
+#[derive(Clone, Copy, Debug, PartialEq, Eq)]
+pub enum LayerKind {
+    /// Its manifest has no tree. This fault is never `NoMemory`.
+    Manifest(ManifestFault),
+    /// The rest of a whiteout's name isn't a name. Nodes are counted from 0, in the order of their paths.
+    Whiteout { node: u64 },
+    /// The union of the layers up to this one has more nodes than a tree may have.
     Full,
 }
 
@@ -67,6 +79,8 @@ pub enum Status {
     NoManifest,
     /// The tree with the planned links has more nodes than a tree may have, or its manifest more bytes than a manifest may have.
     TooLarge { nodes: u64, bytes: u64 },
+    /// This layer, counted from 0, is the first one that can't be part of an image.
+    BadLayer { layer: u64, kind: LayerKind },
 }
 
 // The exit status, and the fault line if there is one.
@@ -115,6 +129,7 @@ impl Status {
             Status::TooLong { .. } => saying(15, unnumbered(b"fault: TooLong\n")),
             Status::NoManifest => saying(16, unnumbered(b"fault: NoManifest\n")),
             Status::TooLarge { .. } => saying(17, unnumbered(b"fault: TooLarge\n")),
+            Status::BadLayer { layer, kind } => saying(19, layer_line(layer, kind)),
         }
     }
 

@@ -1,11 +1,15 @@
 -- What `clap` promises of a parse, for the arguments of a command.
-use Rattle.std.proofs.Common.{◌≡◌, ℕ, true, List, [], inl, inr, subst}
+use Rattle.std.proofs.Common.{◌≡◌, ℕ, true, List, [], Option, None, Err, inl, inr, subst}
 use Rattle.clap.specs.Words.{App, HasKind, HasMatchesOf, fault_of, found_of, is_simple_and_free, kind_of, matches_of, rows_of, takes}
 use Rattle.clap.specs.declared.error.Error.{Error}
+use Rattle.clap.specs.declared.error.kind.ErrorKind.{ErrorKind}
 use Rattle.clap.specs.declared.error.kind.ErrorKind.TheVariants.{OutOfMemory}
 use Rattle.clap.specs.declared.parser.matches.ArgMatches.{ArgMatches}
 use Rattle.command_words.proofs.Apps.{is_free_app, is_simple_app}
 use Rattle.command_words.specs.Language.{app}
+use Rattle.command_words.specs.Words.{FitsKind, Gives, Rejects}
+use Rattle.command_words.specs.declared.fault.WordsFault.{WordsFault}
+use Rattle.command_words.specs.declared.fault.WordsFault.TheVariants as faults
 use Rattle.command_words.specs.declared.verb.Verb.{Verb}
 
 module _ (verb : Verb) (a : App) (words : List (List ℕ)) (is : a ≡ app verb) where
@@ -28,3 +32,17 @@ module _ (verb : Verb) (a : App) (words : List (List ℕ)) (is : a ≡ app verb)
 
   pub only : (e : Error) → (takes a words ≡ true → kind_of e ≡ OutOfMemory) → takes (app verb) words ≡ true → kind_of e ≡ OutOfMemory
   only e passes = subst (λ (p : App). takes p words ≡ true → kind_of e ≡ OutOfMemory) is passes
+
+-- out of memory isn't a rejection
+pub no_rejection : (kind : ErrorKind) (fault : WordsFault) → FitsKind kind fault → kind ≡ OutOfMemory → Rejects fault → ⊥
+no_rejection kind (faults.Refused line) fits memory rejected = fits memory
+no_rejection kind faults.NoMemory fits memory rejected = rejected
+no_rejection kind faults.NoCommand fits memory rejected = fits
+no_rejection kind (faults.Value text) fits memory rejected = fits
+
+-- a value that is rejected is none
+pub rejected_none : {T : Type 0} (expected : Option T) (fault : WordsFault) → Gives expected (Err fault) → Rejects fault → expected ≡ None
+rejected_none expected (faults.Refused line) gives rejected = gives
+rejected_none expected faults.NoMemory gives rejected = absurd rejected
+rejected_none expected faults.NoCommand gives rejected = gives
+rejected_none expected (faults.Value text) gives rejected = gives

@@ -5,7 +5,7 @@ use Rattle.clap.specs.declared.builder.action.ArgAction.TheVariants.{Append, Set
 use Rattle.clap.specs.declared.builder.value_parser.ValueParser.TheVariants.{NonEmptyString}
 use Rattle.clap.specs.Words.{App, Rule, new_app, new_rule, with_rule}
 use Rattle.command_words.specs.declared.verb.Verb.{Verb}
-use Rattle.command_words.specs.declared.verb.Verb.TheVariants.{Update, Batch, Sample, Print, Lookup, Resolve}
+use Rattle.command_words.specs.declared.verb.Verb.TheVariants.{Update, Batch, Layers, Sample, Print, Lookup, Resolve}
 
 -- ---- the first argument
 
@@ -13,6 +13,7 @@ abbrev pub verb_of : List ℕ → Option Verb
 verb_of word =
     if bytes_eq word (codes "update") then Some Update
     else if bytes_eq word (codes "batch") then Some Batch
+    else if bytes_eq word (codes "layers") then Some Layers
     else if bytes_eq word (codes "sample") then Some Sample
     else if bytes_eq word (codes "print") || bytes_eq word (codes "-p") then Some Print
     else if bytes_eq word (codes "lookup") then Some Lookup
@@ -81,7 +82,8 @@ loaded = with_rule (with_rule (with_rule searched (option_rule (codes "library-p
 unfoldable pub app : Verb → App
 app Update = tagged
 app Batch = tagged
+app Layers = with_rule without_requests (words_rule (codes "KEY"))
 app Sample = with_rule without_requests (word_rule (codes "N"))
-app Print = asking
-app Lookup = with_rule (with_rule (with_rule asking (word_rule (codes "NAME"))) (option_rule (codes "abi"))) (option_rule (codes "caps"))
-app Resolve = with_rule (with_rule loaded (flag_rule (codes "list"))) (letter_rule (codes "null") (byte "0"))
+app Print = with_rule asking (flag_rule (codes "json"))
+app Lookup = with_rule (with_rule (with_rule (with_rule asking (word_rule (codes "NAME"))) (option_rule (codes "abi"))) (option_rule (codes "caps"))) (flag_rule (codes "json"))
+app Resolve = with_rule (with_rule (with_rule loaded (flag_rule (codes "list"))) (letter_rule (codes "null") (byte "0"))) (flag_rule (codes "json"))

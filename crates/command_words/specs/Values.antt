@@ -4,6 +4,8 @@ use Rattle.std.specs.Char.{is_ascii_digit}
 use Rattle.std.specs.List.{list_all, slice_split}
 use Rattle.std.specs.Str.{byte, bytes_eq}
 use Rattle.std.specs.Str.Parse.{digits_value}
+use Rattle.image_tree.specs.declared.node.TheConstants.{NODE_TEXT_MAX}
+use Rattle.command_words.specs.declared.values.TheConstants.{LAYERS_MAX}
 
 -- `-` alone is not a value
 abbrev pub is_value : List ℕ → Bool
@@ -18,6 +20,14 @@ abbrev pub number_in : List ℕ → Option ℕ
 number_in text =
     if nat_le 1 (length text) && nat_le (length text) 5 && list_all is_ascii_digit text && nat_lt (digits_value 10 text) (2 ^ 16)
     then Some (digits_value 10 text) else None
+
+-- the key of a manifest in the store
+abbrev pub is_key : List ℕ → Bool
+is_key text = nat_le 1 (length text) && nat_le (length text) NODE_TEXT_MAX
+
+-- the keys of layers
+abbrev pub are_keys : List (List ℕ) → Bool
+are_keys texts = nat_le 1 (length texts) && nat_le (length texts) LAYERS_MAX && list_all is_key texts
 
 abbrev pub is_colon : ℕ → Bool
 is_colon code = code == byte ":"

@@ -2,18 +2,20 @@
 use Rattle.std.specs.Prelude.{◌≡◌, ◌==◌, ◌&&◌, nat_le, ⊤, ℕ, Bool, true, false, not, List, [], codes, length, Option, Some, None, Result, Ok, Err, option_map, option_and_then, unwrap_or, if◌then◌else◌}
 use Rattle.std.specs.List.{list_all}
 use Rattle.std.specs.Option.{option_map_or}
+use Rattle.clap.specs.declared.error.kind.ErrorKind.{ErrorKind}
+use Rattle.clap.specs.declared.error.kind.ErrorKind.TheVariants.{OutOfMemory}
 use Rattle.clap.specs.Words.{Row, all_of, fault_of, first_of, matches_of, takes}
 use Rattle.lib_types.specs.Abi.{abi_of_word}
 use Rattle.lib_types.specs.declared.abi.Abi.{Abi}
 use Rattle.command_words.specs.Language.{app, verb_in}
-use Rattle.command_words.specs.Values.{caps_in, is_true, is_value, number_in}
+use Rattle.command_words.specs.Values.{are_keys, caps_in, is_true, is_value, number_in}
 use Rattle.command_words.specs.declared.fault.WordsFault.{WordsFault}
 use Rattle.command_words.specs.declared.fault.WordsFault.TheVariants as faults
 use Rattle.command_words.specs.declared.line.CommandLine.{CommandLine}
 use Rattle.command_words.specs.declared.kinds.Command.{Command}
 use Rattle.command_words.specs.declared.kinds.Command.TheVariants as commands
 use Rattle.command_words.specs.declared.kinds.Form.{Form}
-use Rattle.command_words.specs.declared.kinds.Form.TheVariants.{Files, Listing}
+use Rattle.command_words.specs.declared.kinds.Form.TheVariants.{Files, Json, Listing}
 use Rattle.command_words.specs.declared.kinds.Lookup.{Lookup}
 use Rattle.command_words.specs.declared.kinds.Resolve.{Resolve}
 use Rattle.tree_face.specs.declared.disk.Tag.{Tag}
@@ -41,35 +43,47 @@ is_sample_size n = nat_le 1 n && nat_le n SAMPLE_MAX
 abbrev pub size_by : List Row → Option ℕ
 size_by found = option_and_then (λ n. if is_sample_size n then Some n else None) (option_and_then number_in (value_by (codes "N") [] found))
 
-abbrev pub abi_by : List Row → Option Abi
-abi_by found = option_and_then abi_of_word (value_by (codes "abi") (codes "x86-64") found)
+-- the ABI, if one is given; None if that text names no ABI
+abbrev pub abi_as : Option (List ℕ) → Option (Option Abi)
+abi_as None = Some None
+abi_as (Some word) = option_map Some (abi_of_word word)
+
+abbrev pub abi_by : List Row → Option (Option Abi)
+abi_by found = abi_as (first_of (codes "abi") found)
 
 abbrev pub caps_by : List Row → Option (List (List ℕ))
 caps_by found = option_map caps_in (value_by (codes "caps") [] found)
-
-abbrev pub lookup_by : List Row → Option Lookup
-lookup_by found = option_and_then (λ name. option_and_then (λ abi. option_map (λ caps. record { name = name; abi = abi; caps = caps })
-    (caps_by found)) (abi_by found)) (value_by (codes "NAME") [] found)
 
 -- whether the flag is given
 abbrev pub flag_by : List ℕ → List Row → Bool
 flag_by id found = option_map_or is_true (first_of id found) false
 
--- `--list` ends each path by a newline, with `-0` by NUL; `-0` is for a list alone
-abbrev pub form_of : Bool → Bool → Option Form
-form_of true true = Some (Files 0)
-form_of true false = Some (Files 10)
-form_of false true = None
-form_of false false = Some Listing
+abbrev pub lookup_by : List Row → Option Lookup
+lookup_by found = option_and_then (λ name. option_and_then (λ abi. option_map (λ caps. record { name = name; abi = abi; caps = caps; json = flag_by (codes "json") found })
+    (caps_by found)) (abi_by found)) (value_by (codes "NAME") [] found)
+
+-- `--list` ends each path by a newline, with `-0` by NUL; `-0` is for a list alone, and `--json` is not for a list
+abbrev pub form_of : Bool → Bool → Bool → Option Form
+form_of true true false = Some (Files 0)
+form_of true false false = Some (Files 10)
+form_of false true false = None
+form_of false false false = Some Listing
+form_of true null true = None
+form_of false true true = None
+form_of false false true = Some Json
 
 abbrev pub form_by : List Row → Option Form
-form_by found = form_of (flag_by (codes "list") found) (flag_by (codes "null") found)
+form_by found = form_of (flag_by (codes "list") found) (flag_by (codes "null") found) (flag_by (codes "json") found)
 
 -- all values of an argument, in order; None if one of them is not a value
 abbrev pub values_by : List ℕ → List Row → Option (List (List ℕ))
 values_by id found =
     let texts = unwrap_or (all_of id found) [] in
     if list_all is_value texts then Some texts else None
+
+-- the keys of the layers' manifests
+abbrev pub keys_by : List Row → Option (List (List ℕ))
+keys_by found = option_and_then (λ keys. if are_keys keys then Some keys else None) (values_by (codes "KEY") found)
 
 abbrev pub resolve_by : List Row → Option Resolve
 resolve_by found = option_and_then (λ paths. option_and_then (λ caps. option_and_then (λ library_path. option_and_then (λ platform. option_map (λ form.
@@ -80,8 +94,9 @@ resolve_by found = option_and_then (λ paths. option_and_then (λ caps. option_a
 abbrev pub command_by : Verb → List Row → Option Command
 command_by verbs.Update found = option_map commands.Update (tag_by found)
 command_by verbs.Batch found = option_map commands.Batch (tag_by found)
+command_by verbs.Layers found = option_map commands.Layers (keys_by found)
 command_by verbs.Sample found = option_map commands.Sample (size_by found)
-command_by verbs.Print found = Some commands.Print
+command_by verbs.Print found = Some (commands.Print (flag_by (codes "json") found))
 command_by verbs.Lookup found = option_map commands.Lookup (lookup_by found)
 command_by verbs.Resolve found = option_map commands.Resolve (resolve_by found)
 
@@ -127,5 +142,21 @@ are_taken words = option_map_or (λ verb. takes (app verb) words) (verb_in words
 
 abbrev pub Gives : {T : Type 0} → Option T → Result T WordsFault → Type 0
 Gives expected (Ok value) = expected ≡ Some value
-Gives expected (Err faults.Usage) = expected ≡ None
+Gives expected (Err faults.NoCommand) = expected ≡ None
+Gives expected (Err (faults.Refused line)) = expected ≡ None
+Gives expected (Err (faults.Value text)) = expected ≡ None
 Gives expected (Err faults.NoMemory) = ⊤
+
+-- the arguments are rejected, which they never are because memory runs out
+abbrev pub Rejects : WordsFault → Type 0
+Rejects faults.NoCommand = ⊤
+Rejects (faults.Refused line) = ⊤
+Rejects (faults.Value text) = ⊤
+Rejects faults.NoMemory = ⊥
+
+-- an error of `clap` as a fault: out of memory stays out of memory
+abbrev pub FitsKind : ErrorKind → WordsFault → Type 0
+FitsKind kind (faults.Refused line) = kind ≡ OutOfMemory → ⊥
+FitsKind kind faults.NoMemory = ⊤
+FitsKind kind faults.NoCommand = ⊥
+FitsKind kind (faults.Value text) = ⊥

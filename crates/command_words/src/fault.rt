@@ -2,14 +2,18 @@
 ghost use Rattle.std.specs.Prelude.{◌≡◌};
 ghost use Rattle.command_words.specs.declared.fault.WordsFault.TheVariants as faults;
 
-use lib_types::NoMemory;
+use lib_types::{NoMemory, Text};
 use std::alloc::AllocError;
 
 /// Why the arguments are not a command.
-#[derive(Clone, Copy, Debug, PartialEq, Eq)]
+#[derive(Drop)]
 pub enum WordsFault {
-    /// They match no command.
-    Usage,
+    /// The first one is not a command.
+    NoCommand,
+    /// `clap` rejects one of them. Its line names the argument.
+    Refused(Text),
+    /// A value is rejected. The text names the argument, and says what it takes.
+    Value(&'static str),
     NoMemory,
 }
 

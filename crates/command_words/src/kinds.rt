@@ -6,9 +6,12 @@ use tree_face::Tag;
 #[derive(Drop)]
 pub struct Lookup {
     pub name: Text,
-    pub abi: Abi,
+    /// None, if no ABI is given.
+    pub abi: Option<Abi>,
     /// The hwcaps names that the processor has, the preferred one first.
     pub caps: Texts,
+    /// Whether the answer is JSON.
+    pub json: bool,
 }
 
 /// How the answer for programs is written.
@@ -18,6 +21,8 @@ pub enum Form {
     Listing,
     /// `--list`: the files that all programs need, each path ended by this byte.
     Files { end: u8 },
+    /// `--json`: the libraries of each program, as JSON.
+    Json,
 }
 
 /// The programs whose libraries are listed, and what the loader is given beside the files.
@@ -43,10 +48,12 @@ pub enum Command {
     Update { tag: Tag },
     /// To take the script of edits and updates on the input, by way of the temporary files of this tag.
     Batch { tag: Tag },
+    /// To update the image that layers make. The store has their manifests under these keys, the lowest layer first.
+    Layers { keys: Texts },
     /// To update images of `n` synthetic libraries, held in memory.
     Sample { n: u16 },
-    /// To print the cache.
-    Print,
+    /// To print the cache, as text or as JSON.
+    Print { json: bool },
     /// To look up a name in the cache.
     Lookup(Lookup),
     /// To list the libraries that programs load.

@@ -83,11 +83,25 @@ fn asking<'a>(alloc: Global) -> Result<Command<'a>, AllocError>
     with(bare(alloc), root(alloc))
 }
 
+#[tactic(auto, unfolding(crate::specs::Language::app))]
+fn print<'a>(alloc: Global) -> Result<Command<'a>, AllocError>
+    ensures { IfOk result (λ c. app_of c ≡ app Verb.Print) }
+{
+    with(asking(alloc)?, flag(alloc, "json"))
+}
+
 // A command that takes the number of its temporary files.
 fn tagged<'a>(alloc: Global) -> Result<Command<'a>, AllocError>
     ensures { IfOk result (λ c. app_of c ≡ tagged) }
 {
     with(bare(alloc), option(alloc, "tag"))
+}
+
+#[tactic(auto, unfolding(crate::specs::Language::app))]
+fn layers<'a>(alloc: Global) -> Result<Command<'a>, AllocError>
+    ensures { IfOk result (λ c. app_of c ≡ app Verb.Layers) }
+{
+    with(bare(alloc), words(alloc, "KEY"))
 }
 
 #[tactic(auto, unfolding(crate::specs::Language::app))]
@@ -103,7 +117,8 @@ fn lookup<'a>(alloc: Global) -> Result<Command<'a>, AllocError>
 {
     let named = with(asking(alloc)?, word(alloc, "NAME"))?;
     let of_abi = with(named, option(alloc, "abi"))?;
-    with(of_abi, option(alloc, "caps"))
+    let with_caps = with(of_abi, option(alloc, "caps"))?;
+    with(with_caps, flag(alloc, "json"))
 }
 
 // Programs for processors with some hwcaps names.
@@ -128,7 +143,8 @@ fn resolve<'a>(alloc: Global) -> Result<Command<'a>, AllocError>
     ensures { IfOk result (λ c. app_of c ≡ app Verb.Resolve) }
 {
     let with_list = with(loaded(alloc)?, flag(alloc, "list"))?;
-    with(with_list, letter(alloc, "null", '0'))
+    let with_null = with(with_list, letter(alloc, "null", '0'))?;
+    with(with_null, flag(alloc, "json"))
 }
 
 /// The arguments of this command.
@@ -138,8 +154,9 @@ pub(crate) fn arguments_of<'a>(alloc: Global, verb: Verb) -> Result<Command<'a>,
 {
     match verb {
         Verb::Update | Verb::Batch => tagged(alloc),
+        Verb::Layers => layers(alloc),
         Verb::Sample => sample(alloc),
-        Verb::Print => asking(alloc),
+        Verb::Print => print(alloc),
         Verb::Lookup => lookup(alloc),
         Verb::Resolve => resolve(alloc),
     }

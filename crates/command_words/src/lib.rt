@@ -6,6 +6,7 @@ mod kinds;
 mod language;
 mod line;
 mod reading;
+mod refusal;
 mod values;
 mod verb;
 
@@ -13,4 +14,5 @@ pub use fault::WordsFault;
 pub use kinds::{Command, Form, Lookup, Resolve};
 pub use line::CommandLine;
 pub use reading::line_of;
+pub use refusal::refusal_line;
 pub use verb::{Verb, help_of};

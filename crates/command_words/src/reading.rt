@@ -1,10 +1,10 @@
 //! The arguments as a command.
-ghost use Rattle.std.specs.Prelude.{◌≡◌, true, Err, None, [], map, option_map, IfOk};
+ghost use Rattle.std.specs.Prelude.{◌≡◌, true, Err, None, [], map, option_map, IfErr, IfOk};
 ghost use Rattle.std.specs.List.{list_all};
 ghost use Rattle.std.specs.String.{string_bytes};
-ghost use Rattle.clap.specs.Words.{all_of, app_of, fault_of, first_of, found_of, matches_of, rows_of, takes};
+ghost use Rattle.clap.specs.Words.{all_of, app_of, fault_of, first_of, found_of, kind_of, matches_of, rows_of, takes};
 ghost use Rattle.command_words.specs.Language.{app, verb_in};
-ghost use Rattle.command_words.specs.Words.{Gives, abi_by, are_taken, caps_by, command_by, flag_by, form_by, form_of, line_by, line_in, lookup_by, resolve_by, root_by, size_by, tag_by, value_by, values_by, values_in};
+ghost use Rattle.command_words.specs.Words.{FitsKind, Gives, Rejects, abi_by, are_taken, caps_by, command_by, flag_by, form_by, form_of, keys_by, line_by, line_in, lookup_by, resolve_by, root_by, size_by, tag_by, value_by, values_by, values_in};
 ghost use Rattle.command_words.specs.Values.{is_value};
 ghost use Rattle.command_words.specs.declared.fault.WordsFault.TheVariants as faults;
 
@@ -12,16 +12,33 @@ use crate::fault::WordsFault;
 use crate::kinds::{Command, Form, Lookup, Resolve};
 use crate::language::arguments_of;
 use crate::line::CommandLine;
-use crate::values::{caps_in, is_true, is_value, number};
+use crate::refusal::refusal_line;
+use crate::values::{are_keys, caps_in, is_true, is_value, number};
 use crate::verb::{Verb, verb_in};
-use clap::ArgMatches;
 use clap::error::ErrorKind;
+use clap::{ArgMatches, Error};
 use lib_types::{Abi, NoMemory, Text, Texts};
 use std::alloc::Global;
 use tree_face::Tag;
 
 // The most libraries of a sample. The usage text of `ldconfig` (advice.rt) repeats it, because `concat!` takes only literals.
 const SAMPLE_MAX: u16 = 20_000;
+
+// What is said of a value that is `-` alone.
+const DASH: &str = "- is not accepted as a value: use ./- for a file of this name";
+
+// An error of `clap` as a fault.
+fn refusal(alloc: Global, error: &Error) -> WordsFault
+    ensures { FitsKind (kind_of error.now) result }
+{
+    match error.kind() {
+        ErrorKind::OutOfMemory => WordsFault::NoMemory,
+        _ => match refusal_line(alloc, error) {
+            Ok(line) => WordsFault::Refused(line),
+            Err(NoMemory) => WordsFault::NoMemory,
+        },
+    }
+}
 
 // What `clap` finds in the arguments of this command.
 fn parse<'a>(
@@ -31,16 +48,13 @@ fn parse<'a>(
 ) -> Result<ArgMatches<'a>, WordsFault>
     ensures found { IfOk result (λ m. rows_of (found_of m) ≡ matches_of (app verb) (map string_bytes arguments.entry.now.items)) }
     ensures accepted { IfOk result (λ _. fault_of (app verb) (map string_bytes arguments.entry.now.items) ≡ []) }
-    ensures refused { result ≡ Err faults.Usage → fault_of (app verb) (map string_bytes arguments.entry.now.items) ≡ [] → ⊥ }
-    ensures only { result ≡ Err faults.Usage → takes (app verb) (map string_bytes arguments.entry.now.items) ≡ true → ⊥ }
+    ensures refused { IfErr result (λ fault. Rejects fault → fault_of (app verb) (map string_bytes arguments.entry.now.items) ≡ [] → ⊥) }
+    ensures only { IfErr result (λ fault. Rejects fault → takes (app verb) (map string_bytes arguments.entry.now.items) ≡ true → ⊥) }
 {
     let command = arguments_of(alloc, verb)?;
     match command.try_get_matches_from(arguments.as_slice()) {
         Ok(matches) => Ok(matches),
-        Err(error) => match error.kind() {
-            ErrorKind::OutOfMemory => Err(WordsFault::NoMemory),
-            _ => Err(WordsFault::Usage),
-        },
+        Err(error) => Err(refusal(alloc, &error)),
     }
 }
 
@@ -66,7 +80,7 @@ fn tag_by(found: &ArgMatches<'_>) -> Result<Tag, WordsFault>
 {
     match value_by(found, "tag", "0").and_then(number) {
         Some(tag) => Ok(Tag(tag)),
-        None => Err(WordsFault::Usage),
+        None => Err(WordsFault::Value("--tag takes a number from 0 to 65535")),
     }
 }
 
@@ -76,14 +90,21 @@ fn size_by(found: &ArgMatches<'_>) -> Result<u16, WordsFault>
 {
     match value_by(found, "N", "").and_then(number) {
         Some(n) if 1 <= n && n <= SAMPLE_MAX => Ok(n),
-        _ => Err(WordsFault::Usage),
+        _ => Err(WordsFault::Value("N is a number from 1 to 20000")),
     }
 }
 
-fn abi_by(found: &ArgMatches<'_>) -> Option<Abi>
-    ensures { result ≡ abi_by (rows_of (found_of found.now)) }
+// The ABI, if one is given.
+fn abi_by(found: &ArgMatches<'_>) -> Result<Option<Abi>, WordsFault>
+    ensures { Gives (abi_by (rows_of (found_of found.now))) result }
 {
-    Abi::of_word(value_by(found, "abi", "x86-64")?.as_bytes())
+    match first_of(found, "abi") {
+        Some(word) => match Abi::of_word(word.as_bytes()) {
+            Some(abi) => Ok(Some(abi)),
+            None => Err(WordsFault::Value("--abi takes the name of an ABI, for example aarch64")),
+        },
+        None => Ok(None),
+    }
 }
 
 fn caps_by(alloc: Global, found: &ArgMatches<'_>) -> Result<Texts, WordsFault>
@@ -91,22 +112,8 @@ fn caps_by(alloc: Global, found: &ArgMatches<'_>) -> Result<Texts, WordsFault>
 {
     match value_by(found, "caps", "") {
         Some(list) => Ok(caps_in(alloc, list.as_bytes())?),
-        None => Err(WordsFault::Usage),
+        None => Err(WordsFault::Value(DASH)),
     }
-}
-
-fn lookup_by(alloc: Global, found: &ArgMatches<'_>) -> Result<Lookup, WordsFault>
-    ensures { Gives (lookup_by (rows_of (found_of found.now))) result }
-{
-    let Some(name) = value_by(found, "NAME", "") else {
-        return Err(WordsFault::Usage);
-    };
-    let Some(abi) = abi_by(found) else {
-        return Err(WordsFault::Usage);
-    };
-    let caps = caps_by(alloc, found)?;
-    let name = Text::copy_of(alloc, name.as_bytes())?;
-    Ok(Lookup { name, abi, caps })
 }
 
 // Whether the flag is given.
@@ -119,24 +126,45 @@ fn flag_by(found: &ArgMatches<'_>, id: &str) -> bool
     }
 }
 
-// How the answer is written, if these flags can be given together.
-fn form_of(list: bool, null: bool) -> Option<Form>
-    ensures { result ≡ form_of list null }
+fn lookup_by(alloc: Global, found: &ArgMatches<'_>) -> Result<Lookup, WordsFault>
+    ensures { Gives (lookup_by (rows_of (found_of found.now))) result }
 {
-    match (list, null) {
-        (true, true) => Some(Form::Files { end: 0 }),
-        (true, false) => Some(Form::Files { end: b'\n' }),
-        (false, true) => None,
-        (false, false) => Some(Form::Listing),
+    let Some(name) = value_by(found, "NAME", "") else {
+        return Err(WordsFault::Value(DASH));
+    };
+    let abi = abi_by(found)?;
+    let caps = caps_by(alloc, found)?;
+    let name = Text::copy_of(alloc, name.as_bytes())?;
+    let json = flag_by(found, "json");
+    Ok(Lookup {
+        name,
+        abi,
+        caps,
+        json,
+    })
+}
+
+// How the answer is written, if these flags can be given together.
+fn form_of(list: bool, null: bool, json: bool) -> Option<Form>
+    ensures { result ≡ form_of list null json }
+{
+    match (list, null, json) {
+        (true, true, false) => Some(Form::Files { end: 0 }),
+        (true, false, false) => Some(Form::Files { end: b'\n' }),
+        (false, false, true) => Some(Form::Json),
+        (false, false, false) => Some(Form::Listing),
+        (_, _, true) | (false, true, false) => None,
     }
 }
 
 fn form_by(found: &ArgMatches<'_>) -> Result<Form, WordsFault>
     ensures { Gives (form_by (rows_of (found_of found.now))) result }
 {
-    match form_of(flag_by(found, "list"), flag_by(found, "null")) {
+    let list = flag_by(found, "list");
+    let null = flag_by(found, "null");
+    match form_of(list, null, flag_by(found, "json")) {
         Some(form) => Ok(form),
-        None => Err(WordsFault::Usage),
+        None => Err(WordsFault::Value("-0 is only for --list, and --json is not for --list")),
     }
 }
 
@@ -146,7 +174,7 @@ fn text_by(alloc: Global, found: &ArgMatches<'_>, id: &str) -> Result<Text, Word
 {
     match value_by(found, id, "") {
         Some(text) => Ok(Text::copy_of(alloc, text.as_bytes())?),
-        None => Err(WordsFault::Usage),
+        None => Err(WordsFault::Value(DASH)),
     }
 }
 
@@ -185,8 +213,20 @@ fn texts_by(alloc: Global, found: &ArgMatches<'_>, id: &str) -> Result<Texts, Wo
 {
     match all_of(found, id) {
         Some(texts) if are_values(texts) => Ok(copies_of(alloc, texts)?),
-        Some(_) => Err(WordsFault::Usage),
+        Some(_) => Err(WordsFault::Value(DASH)),
         None => Ok(Texts::new(alloc)),
+    }
+}
+
+// The keys of the layers' manifests.
+fn keys_by(alloc: Global, found: &ArgMatches<'_>) -> Result<Texts, WordsFault>
+    ensures { Gives (keys_by (rows_of (found_of found.now))) result }
+{
+    let keys = texts_by(alloc, found, "KEY")?;
+    if are_keys(keys.as_slice()) {
+        Ok(keys)
+    } else {
+        Err(WordsFault::Value("layers takes 1 to 64 files, each KEY with 1 to 4095 bytes"))
     }
 }
 
@@ -215,8 +255,13 @@ fn command_by(alloc: Global, verb: Verb, found: &ArgMatches<'_>) -> Result<Comma
     match verb {
         Verb::Update => tag_by(found).map(|tag| Command::Update { tag }),
         Verb::Batch => tag_by(found).map(|tag| Command::Batch { tag }),
+        Verb::Layers => Ok(Command::Layers {
+            keys: keys_by(alloc, found)?,
+        }),
         Verb::Sample => size_by(found).map(|n| Command::Sample { n }),
-        Verb::Print => Ok(Command::Print),
+        Verb::Print => Ok(Command::Print {
+            json: flag_by(found, "json"),
+        }),
         Verb::Lookup => Ok(Command::Lookup(lookup_by(alloc, found)?)),
         Verb::Resolve => Ok(Command::Resolve(resolve_by(alloc, found)?)),
     }
@@ -228,7 +273,7 @@ fn root_by(alloc: Global, found: &ArgMatches<'_>) -> Result<Option<Text>, WordsF
 {
     match first_of(found, "ROOT") {
         Some(text) if is_value(text) => Ok(Some(Text::copy_of(alloc, text.as_bytes())?)),
-        Some(_) => Err(WordsFault::Usage),
+        Some(_) => Err(WordsFault::Value(DASH)),
         None => Ok(None),
     }
 }
@@ -245,12 +290,12 @@ fn line_by(alloc: Global, verb: Verb, found: &ArgMatches<'_>) -> Result<CommandL
 #[tactic(auto, unfolding(crate::specs::Words::are_taken, crate::specs::Words::line_in))]
 pub fn line_of(alloc: Global, arguments: &Vec<String>) -> Result<CommandLine, WordsFault>
     ensures line { Gives (line_in (map string_bytes arguments.now.items)) result }
-    ensures no_command { verb_in (map string_bytes arguments.now.items) ≡ None → result ≡ Err faults.Usage }
-    ensures only { result ≡ Err faults.Usage → are_taken (map string_bytes arguments.now.items) ≡ true
-        → values_in (map string_bytes arguments.now.items) ≡ None }
+    ensures no_command { verb_in (map string_bytes arguments.now.items) ≡ None → result ≡ Err faults.NoCommand }
+    ensures only { IfErr result (λ fault. Rejects fault → are_taken (map string_bytes arguments.now.items) ≡ true
+        → values_in (map string_bytes arguments.now.items) ≡ None) }
 {
     let Some(verb) = verb_in(arguments) else {
-        return Err(WordsFault::Usage);
+        return Err(WordsFault::NoCommand);
     };
     let found = parse(alloc, verb, arguments)?;
     line_by(alloc, verb, &found)

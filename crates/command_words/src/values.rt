@@ -3,10 +3,14 @@ ghost use Rattle.std.specs.Prelude.{◌≡◌, ◌<◌, ◌^◌, length, nat_lt,
 ghost use Rattle.std.specs.Char.{is_ascii_digit};
 ghost use Rattle.std.specs.List.{list_all};
 ghost use Rattle.std.specs.Str.Parse.{digits_value};
-ghost use Rattle.command_words.specs.Values.{caps_in, is_true, is_value, number_in};
+ghost use Rattle.command_words.specs.Values.{are_keys, caps_in, is_key, is_true, is_value, number_in};
 
 use lib_types::{NoMemory, Separator, Text, Texts, split};
 use std::alloc::Global;
+use tree_face::NODE_TEXT_MAX;
+
+/// The most layers of an image. The usage text of `ldconfig` (texts.rt) and the message in `keys_by` repeat it.
+const LAYERS_MAX: usize = 64;
 
 /// Whether the text may be a value.
 pub(crate) fn is_value(text: &str) -> bool
@@ -20,6 +24,25 @@ pub(crate) fn is_true(text: &str) -> bool
     ensures { result ≡ is_true text.now }
 {
     text.as_bytes() == b"true".as_slice()
+}
+
+fn is_key(text: &[u8]) -> bool
+    ensures { result ≡ is_key text.now }
+{
+    1 <= text.len() && text.len() <= NODE_TEXT_MAX
+}
+
+fn are_all_keys(texts: &[Text]) -> bool
+    ensures { result ≡ list_all is_key texts.now }
+{
+    texts.iter().all(|text| is_key(text.as_bytes()))
+}
+
+/// Whether the texts are the keys of layers.
+pub(crate) fn are_keys(texts: &[Text]) -> bool
+    ensures { result ≡ are_keys texts.now }
+{
+    1 <= texts.len() && texts.len() <= LAYERS_MAX && are_all_keys(texts)
 }
 
 fn are_digits(text: &[u8]) -> bool

@@ -9,6 +9,7 @@ ghost use Rattle.command_words.specs.Language.{help_in, verb_in, verb_of};
 pub enum Verb {
     Update,
     Batch,
+    Layers,
     Sample,
     Print,
     Lookup,
@@ -29,6 +30,8 @@ fn verb_of(word: &str) -> Option<Verb>
         Some(Verb::Update)
     } else if is_word(word, "batch") {
         Some(Verb::Batch)
+    } else if is_word(word, "layers") {
+        Some(Verb::Layers)
     } else if is_word(word, "sample") {
         Some(Verb::Sample)
     } else if is_word(word, "print") || is_word(word, "-p") {

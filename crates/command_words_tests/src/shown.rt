@@ -39,17 +39,35 @@ fn put_paths(text: &mut Vec<u8>, paths: &Texts) -> Result<(), NoMemory> {
     Ok(())
 }
 
-// The ABI is shown by its flags in a cache.
+fn put_json(text: &mut Vec<u8>, json: bool) -> Result<(), NoMemory> {
+    if json {
+        put_line(text, b"json", b"")?;
+    }
+    Ok(())
+}
+
+fn put_keys(text: &mut Vec<u8>, keys: &Texts) -> Result<(), NoMemory> {
+    for key in keys.as_slice() {
+        put_line(text, b"key=", key.as_bytes())?;
+    }
+    Ok(())
+}
+
+// An ABI is shown by its flags in a cache.
 fn put_lookup(alloc: Global, text: &mut Vec<u8>, lookup: &Lookup) -> Result<(), NoMemory> {
     put_line(text, b"name=", lookup.name.as_bytes())?;
-    put_number(alloc, text, b"flags=", lookup.abi.flags())?;
-    put_caps(text, &lookup.caps)
+    if let Some(abi) = lookup.abi {
+        put_number(alloc, text, b"flags=", abi.flags())?;
+    }
+    put_caps(text, &lookup.caps)?;
+    put_json(text, lookup.json)
 }
 
 // The byte that ends a path of a list is shown by its name.
 fn put_form(text: &mut Vec<u8>, form: Form) -> Result<(), NoMemory> {
     match form {
         Form::Listing => Ok(()),
+        Form::Json => put_json(text, true),
         Form::Files { end: b'\n' } => put_line(text, b"list", b" newline"),
         Form::Files { end: 0 } => put_line(text, b"list", b" NUL"),
         Form::Files { .. } => put_line(text, b"list", b" other"),
@@ -77,11 +95,18 @@ fn put_command(alloc: Global, text: &mut Vec<u8>, command: &Command) -> Result<(
             put_line(text, b"batch", b"")?;
             put_tag(alloc, text, tag)
         }
+        Command::Layers { keys } => {
+            put_line(text, b"layers", b"")?;
+            put_keys(text, keys)
+        }
         Command::Sample { n } => {
             put_line(text, b"sample", b"")?;
             put_number(alloc, text, b"n=", i32::from(*n))
         }
-        Command::Print => put_line(text, b"print", b""),
+        Command::Print { json } => {
+            put_line(text, b"print", b"")?;
+            put_json(text, *json)
+        }
         Command::Lookup(lookup) => {
             put_line(text, b"lookup", b"")?;
             put_lookup(alloc, text, lookup)
@@ -105,6 +130,7 @@ fn name_of(verb: Verb) -> &'static [u8] {
     match verb {
         Verb::Update => b"update",
         Verb::Batch => b"batch",
+        Verb::Layers => b"layers",
         Verb::Sample => b"sample",
         Verb::Print => b"print",
         Verb::Lookup => b"lookup",
@@ -128,10 +154,10 @@ pub(crate) fn shown(
     line: Result<CommandLine, WordsFault>,
 ) -> Result<Vec<u8>, NoMemory> {
     let mut text = Vec::new(alloc);
-    match line {
-        Ok(line) => put_line_of(alloc, &mut text, &line)?,
-        Err(WordsFault::Usage) => put_line(&mut text, b"Usage", b"")?,
+    match &line {
+        Ok(line) => put_line_of(alloc, &mut text, line)?,
         Err(WordsFault::NoMemory) => put_line(&mut text, b"NoMemory", b"")?,
+        Err(_) => put_line(&mut text, b"Usage", b"")?,
     }
     Ok(text)
 }

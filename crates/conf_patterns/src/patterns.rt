@@ -17,8 +17,8 @@ use tree_face::{Kind, Tree};
 /// The results of a pattern: each path as written, and the path that it resolves to.
 pub type Results = BTreeMap<Text, Text>;
 
-// The path that a pattern's components are relative to.
-fn base_of<'a>(file: &'a [u8], pattern: &[u8]) -> &'a [u8]
+/// The path that a pattern's components are relative to.
+pub fn base_of<'a>(file: &'a [u8], pattern: &[u8]) -> &'a [u8]
     ensures { result.now ≡ base_of file.now pattern.now }
 {
     if is_absolute(pattern) {
@@ -28,7 +28,8 @@ fn base_of<'a>(file: &'a [u8], pattern: &[u8]) -> &'a [u8]
     }
 }
 
-fn components_of(pattern: &[u8]) -> Parts<'_>
+/// The components of a pattern, without the slash before the first.
+pub fn components_of(pattern: &[u8]) -> Parts<'_>
     ensures { result ≡ components_of pattern.now }
 {
     if is_absolute(pattern) {
@@ -38,7 +39,8 @@ fn components_of(pattern: &[u8]) -> Parts<'_>
     }
 }
 
-fn is_wild(component: &[u8]) -> bool
+/// Whether a component has a wildcard.
+pub fn is_wild(component: &[u8]) -> bool
     ensures { result ≡ is_wild component.now }
 {
     has_one(b"*?[", component)

@@ -1,10 +1,10 @@
 //! The names of temporary files.
-ghost use Rattle.std.specs.Prelude.{◌≡◌, ◌&&◌, ◌+◌, ◌%◌, ◌^◌, ◌++◌, ◌<◌, length, IfOk, IfSome, MatchOption, List, ℕ, None, false, string_bytes};
+ghost use Rattle.std.specs.Prelude.{◌≡◌, ◌&&◌, ◌+◌, ◌%◌, ◌^◌, ◌++◌, length, IfOk, IfSome, MatchOption, List, ℕ, None, false, string_bytes};
 ghost use Rattle.std.specs.Char.{is_ascii_digit};
 ghost use Rattle.std.specs.Fmt.{decimal};
-ghost use Rattle.std.specs.List.{after_first, before_first, list_all, position_or_len};
+ghost use Rattle.std.specs.List.{list_all, position_or_len};
 ghost use Rattle.lib_types.specs.Bytes.{is_byte};
-ghost use Rattle.device_rules.specs.Temporary.{IsMadeBy, is_number, temporary_name};
+ghost use Rattle.device_rules.specs.Temporary.{AreAtDot, IsMadeBy, is_number, temporary_name};
 
 use crate::paths::following;
 use std::alloc::AllocError;
@@ -70,7 +70,7 @@ pub fn maker_of<'a>(name: &'a str, file: &str) -> Option<&'a str>
 // The parts before and after the first dot.
 #[tactic(auto, using(crate::proofs::NameParts::at_first))]
 fn at_dot(text: &str) -> Option<(&str, &str)>
-    ensures { MatchOption result (position_or_len (is_byte 46) text.now ≡ length text.now) (λ parts. (parts.0.now ≡ before_first (is_byte 46) text.now) × (parts.1.now ≡ after_first (is_byte 46) text.now) × (position_or_len (is_byte 46) text.now < length text.now)) }
+    ensures { MatchOption result (position_or_len (is_byte 46) text.now ≡ length text.now) (λ parts. AreAtDot text.now parts.0.now parts.1.now) }
 {
     text.split_once('.')
 }

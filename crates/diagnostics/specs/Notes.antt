@@ -1,7 +1,7 @@
 -- The lines on the error output after a command has ended.
 use Rattle.std.specs.Prelude.{◌≡◌, ◌<◌, ℕ, Bool, true, false, Option, Some}
 use Rattle.command_status.specs.declared.status.Status.{Status}
-use Rattle.command_status.specs.declared.status.Status.TheVariants.{NoManifest, NoCache, BadCache, NoProgram, BadProgram, Missing, NoMemory}
+use Rattle.command_status.specs.declared.status.Status.TheVariants.{NoManifest, NoCache, BadCache, BadLayer, NoProgram, BadProgram, Missing, NoMemory}
 
 -- both caches have an entry count, and the new one is lower
 pub record IsFewer (before now : Option ℕ) (old new : ℕ) : Type 0 where
@@ -14,8 +14,7 @@ abbrev pub has_advice : Status → Bool
 has_advice NoManifest = true
 has_advice NoCache = true
 has_advice (BadCache defect) = true
-has_advice NoProgram = true
-has_advice (BadProgram defect) = true
+has_advice (BadLayer layer kind) = true
 has_advice NoMemory = true
 has_advice _ = false
 

@@ -111,7 +111,7 @@ pub fn note_size<R: Runtime + Streams>(
     let (most_entries, most_nodes, most_bytes) = (ENTRIES_MAX, NODES_MAX, MANIFEST_MAX);
     let line = match status {
         Status::TooMany { count } => format!(in alloc;
-            "ldconfig: etc/ld.so.cache: the image has {count} libraries, and a cache at most {most_entries}\n"
+            "ldconfig: etc/ld.so.cache: it would have {count} entries, and may have {most_entries}\n"
         )?,
         Status::TooLarge { nodes, bytes: 0 } => format!(in alloc;
             "ldconfig: image.mtree: with the links of its libraries it would have {nodes} nodes, and it may have {most_nodes}\n"

@@ -2,7 +2,7 @@
 ghost use Rattle.std.specs.Prelude.{◌≡◌, ◌↔◌, ◌||◌, ℕ, Some, IsTrue, IsSome};
 ghost use Rattle.diagnostics.specs.Notes.{IsFewer, has_advice, is_part};
 
-use command_status::Status;
+use command_status::{LayerKind, Status};
 use command_words::Verb;
 use mtree_manifest::LineKind;
 use standard_streams::OUT_OF_MEMORY;
@@ -28,31 +28,36 @@ const BATCH_USAGE: &str = "\
 usage: ldconfig batch [--tag N]: takes a script from the input: lines put LINE, with a line of a manifest, and drop PATH edit image.mtree, and each line update does what ldconfig update does; edits after the last update are not written
 ";
 
+const LAYERS_USAGE: &str = "\
+usage: ldconfig layers KEY..: does what ldconfig update does, with the image that layers make, in place of image.mtree: 1 to 64 files KEY, each the manifest of a layer with its whiteouts, the lowest layer first; image.mtree then has the image's manifest
+";
+
 const SAMPLE_USAGE: &str = "\
 usage: ldconfig sample N: updates images of N synthetic libraries, 1 to 20000, in memory, and prints what was done; no file is read or written
 ";
 
 const PRINT_USAGE: &str = "\
-usage: ldconfig print [-r ROOT], or -p: prints etc/ld.so.cache, or that of the directory ROOT
+usage: ldconfig print [--json] [-r ROOT], or -p: prints etc/ld.so.cache, or that of the directory ROOT; with --json as JSON
 ";
 
 const LOOKUP_USAGE: &str = "\
-usage: ldconfig lookup NAME [--abi ABI] [--caps LIST] [-r ROOT]: the path that the loader takes from etc/ld.so.cache, or that of the directory ROOT; LIST: hwcaps names between colons, as in ldconfig lookup libz.so.1 --caps x86-64-v3:x86-64-v2
+usage: ldconfig lookup NAME [--abi ABI] [--caps LIST] [--json] [-r ROOT]: the path that the loader takes from etc/ld.so.cache, or that of the directory ROOT, with --json as JSON; LIST: hwcaps names between colons, as in ldconfig lookup libz.so.1 --caps x86-64-v3:x86-64-v2
 ";
 
 const RESOLVE_USAGE: &str = "\
-usage: ldconfig resolve PATH.. [--caps LIST] [--library-path LIST] [--platform TEXT] [--secure] [--list [-0]] [-r ROOT]: the libraries that each program or library PATH of the image, or of the directory ROOT, loads, and from where, as ldd lists them; with --list all files that they need, one a line for tar -T, or with -0 ended by NUL
+usage: ldconfig resolve PATH.. [--caps LIST] [--library-path LIST] [--platform TEXT] [--secure] [--list [-0] | --json] [-r ROOT]: the libraries that each program or library PATH of the image, or of the directory ROOT, loads, and from where, as ldd lists them, or with --json as JSON; with --list all files that they need, one a line for tar -T, or with -0 ended by NUL
 ";
 
 const USAGE_END: &str =
     "Those without -r, -n and -C run in the directory of an image. What they write and every exit status: README.md and docs/FORMATS.md\n";
 
 /// The usage text: the version, a line for each command, and where they run.
-pub const USAGE: [&str; 9] = [
+pub const USAGE: [&str; 10] = [
     VERSION,
     ROOT_USAGE,
     UPDATE_USAGE,
     BATCH_USAGE,
+    LAYERS_USAGE,
     SAMPLE_USAGE,
     PRINT_USAGE,
     LOOKUP_USAGE,
@@ -65,6 +70,7 @@ pub fn usage_of(verb: Verb) -> &'static str {
     match verb {
         Verb::Update => UPDATE_USAGE,
         Verb::Batch => BATCH_USAGE,
+        Verb::Layers => LAYERS_USAGE,
         Verb::Sample => SAMPLE_USAGE,
         Verb::Print => PRINT_USAGE,
         Verb::Lookup => LOOKUP_USAGE,
@@ -81,11 +87,20 @@ const NO_CACHE: &str =
 const BAD_CACHE: &str =
     "ldconfig: etc/ld.so.cache: the line on the output says what is wrong, docs/FORMATS.md explains it; ldconfig update makes another\n";
 
-const NO_PROGRAM: &str =
-    "ldconfig: a path leads to no file of image.mtree, links in the image followed\n";
-
-pub const BAD_PROGRAM: &str =
-    "ldconfig: the line on the output says why a file is not a program or library, docs/FORMATS.md explains it\n";
+// What is wrong with the layer that the fault line names.
+fn layer_advice(kind: LayerKind) -> &'static str {
+    match kind {
+        LayerKind::Manifest(_) => {
+            "ldconfig: layers are counted from 0: the manifest of this one is malformed or longer than 2^26 bytes: ldconfig update says of a manifest which line is wrong\n"
+        }
+        LayerKind::Whiteout { .. } => {
+            "ldconfig: layers are counted from 0: a whiteout of this one names nothing: it is .wh. alone, or followed by a dot or two\n"
+        }
+        LayerKind::Full => {
+            "ldconfig: layers are counted from 0: with this one the image has more than 2^20 files, directories and links\n"
+        }
+    }
+}
 
 /// What is said of a list that isn't whole.
 pub const LIST_LACKS: &str =
@@ -113,8 +128,7 @@ pub fn advice(status: Status) -> Option<&'static str>
         Status::NoManifest => Some(NO_MANIFEST),
         Status::NoCache => Some(NO_CACHE),
         Status::BadCache(_) => Some(BAD_CACHE),
-        Status::NoProgram => Some(NO_PROGRAM),
-        Status::BadProgram(_) => Some(BAD_PROGRAM),
+        Status::BadLayer { kind, .. } => Some(layer_advice(kind)),
         Status::NoMemory => Some(OUT_OF_MEMORY),
         _ => None,
     }

@@ -2,7 +2,8 @@
 use image_folder::HeldFile;
 use lib_types::{NoMemory, Text, Texts};
 use name_order::is_library_name;
-use standard_streams::{Streams, printable_bytes, write_text};
+use path_walk::parted;
+use standard_streams::{Streams, printable, printable_bytes, write_text};
 use std::alloc::Global;
 use std::io::{self, Error, ErrorKind};
 use std::rt::Runtime;
@@ -26,7 +27,17 @@ where
     let Ok(tree) = mtree_manifest::read(rt.alloc(), &text) else {
         return Ok(());
     };
-    let Ok(dirs) = library_dirs(rt.alloc(), &tree) else {
+    note_library_dirs(rt, "image.mtree", &tree)
+}
+
+/// Names directories of a tree that have files with library names, at most three, and says how many others there are. `root` is the name of
+/// the tree. None of them was searched.
+pub fn note_library_dirs<R: Runtime + AllocGlobal + Streams>(
+    rt: &R,
+    root: &str,
+    tree: &Tree,
+) -> io::Result<()> {
+    let Ok(dirs) = library_dirs(rt.alloc(), tree) else {
         return Err(Error::from(ErrorKind::OutOfMemory));
     };
     for dir in dirs.as_slice().iter().take(NAMED) {
@@ -40,8 +51,9 @@ where
     if others == 0 {
         return Ok(());
     }
+    let root = printable(rt, root)?;
     let line = format!(in rt.alloc();
-        "ldconfig: image.mtree: more directories that have libraries and aren't searched: {others}\n"
+        "ldconfig: {root}: more directories that have libraries and aren't searched: {others}\n"
     )?;
     write_text(rt, line.as_str())
 }
@@ -61,9 +73,10 @@ fn library_dirs(alloc: Global, tree: &Tree) -> Result<Texts, NoMemory> {
 
 // The directory of a path whose last name is that of a library.
 fn library_dir(path: &[u8]) -> Option<&[u8]> {
-    let slash = path.iter().rposition(|b| *b == b'/')?;
-    if !is_library_name(&path[slash + 1..]) {
-        return None;
+    let (dir, name) = parted(path);
+    if is_library_name(name) {
+        Some(dir)
+    } else {
+        None
     }
-    Some(if slash == 0 { b"/" } else { &path[..slash] })
 }

@@ -76,5 +76,5 @@ abbrev pub AreSame : Contents → Nodes → Nodes → Type 0
 AreSame held t u = (p q : List ℕ) → is_some (id_at t p) ≡ true → id_at u q ≡ id_at t p → content_of held u q ≡ content_of held t p
 
 -- a fact that holds if contents are known, the stamps are true, and equal identities imply equal contents
-abbrev pub IfHonest : Option Contents → Nodes → List Stamp → (Contents → Type 0) → Type 0
-IfHonest known t stamps P = IfKnown known (λ held. AreTrue held t stamps → AreSame held t t → P held)
+abbrev pub IfReliable : Option Contents → Nodes → List Stamp → (Contents → Type 0) → Type 0
+IfReliable known t stamps P = IfKnown known (λ held. AreTrue held t stamps → AreSame held t t → P held)

@@ -6,7 +6,8 @@ ghost use Rattle.aux_cache.specs.Stamps.{AreRecordable, IsRecordable, stamp_of};
 ghost use Rattle.file_stamps.specs.Stamped.{of_stamp, stamp_by, with_stamps};
 
 use aux_cache::{GatheredStamps, Stamp, Stamps};
-use lib_types::{Analysis, NoMemory, Text};
+use file_table::copy_of;
+use lib_types::{Analysis, NoMemory};
 use std::alloc::Global;
 use tree_face::Id;
 
@@ -20,18 +21,6 @@ fn find<'a>(loaded: &'a Stamps, made: &'a GatheredStamps, id: Id) -> Option<&'a 
     match loaded.find(&id) {
         Some(stamp) => Some(stamp),
         None => made.find(id),
-    }
-}
-
-fn copy_of(alloc: Global, analysis: &Analysis) -> Result<Analysis, NoMemory>
-    ensures { IfOk result (λ copy. copy ≡ analysis.now) }
-{
-    match analysis {
-        Analysis::Lib { abi, soname } => Ok(Analysis::Lib {
-            abi: *abi,
-            soname: Text::copy_if_some(alloc, soname)?,
-        }),
-        Analysis::Not(defect) => Ok(Analysis::Not(*defect)),
     }
 }
 

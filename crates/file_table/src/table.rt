@@ -18,7 +18,8 @@ use std::alloc::Global;
 use std::cell::Cell;
 use std::marker::Model;
 
-fn copy_of(alloc: Global, analysis: &Analysis) -> Result<Analysis, NoMemory>
+/// A copy of what a file is.
+pub fn copy_of(alloc: Global, analysis: &Analysis) -> Result<Analysis, NoMemory>
     ensures { IfOk result (λ copy. copy ≡ analysis.now) }
 {
     match analysis {

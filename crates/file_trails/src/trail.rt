@@ -8,9 +8,9 @@ ghost use Rattle.file_trails.specs.Trail.{trail};
 
 use crate::names::{add_copies, names_of};
 use lib_types::{NoMemory, Text, Texts};
-use path_walk::{LINKS_MAX, is_absolute, join, parted};
+use path_walk::{LINKS_MAX, join, parent_of, start_of, target_of};
 use std::alloc::Global;
-use tree_face::{Kind, Node, Tree};
+use tree_face::{Kind, Tree};
 
 /// What a name leads to in a directory.
 #[derive(Drop)]
@@ -29,34 +29,6 @@ enum Step {
 struct Onward {
     names: Texts,
     place: Text,
-}
-
-// The directory of a path.
-fn parent_of(alloc: Global, place: &[u8]) -> Result<Text, NoMemory>
-    ensures { IfOk result (λ folder. folder ≡ parent place.now) }
-{
-    Text::copy_of(alloc, parted(place).0)
-}
-
-// The directory in which a link's target starts.
-fn start_of(alloc: Global, place: Text, target: &[u8]) -> Result<Text, NoMemory>
-    ensures { IfOk result (λ start. start ≡ start_of target.now place) }
-{
-    if is_absolute(target) {
-        Text::copy_of(alloc, b"/")
-    } else {
-        Ok(place)
-    }
-}
-
-// The target of the link at the path.
-fn target_of(alloc: Global, tree: &Tree, path: &[u8]) -> Result<Text, NoMemory>
-    ensures { IfOk result (λ target. target ≡ target_at tree.now path.now) }
-{
-    match tree.node(path) {
-        Some(Node::Link { target }) => Text::copy_of(alloc, target.as_bytes()),
-        _ => Text::copy_of(alloc, b""),
-    }
 }
 
 #[tactic(auto, using(crate::proofs::Steps::goes_up, crate::proofs::Steps::goes_down, crate::proofs::Steps::stops_at_file, crate::proofs::Steps::stops_at_link, crate::proofs::Steps::nowhere))]

@@ -31,8 +31,8 @@ fn is_dir(kind: Kind) -> bool
     }
 }
 
-// The directory that a path resolves to, if it resolves to a directory.
-fn dir_at(alloc: Global, tree: &Tree, text: &[u8]) -> Result<Option<Text>, NoMemory>
+/// The directory that a path resolves to, if it resolves to a directory.
+pub fn dir_at(alloc: Global, tree: &Tree, text: &[u8]) -> Result<Option<Text>, NoMemory>
     ensures { IfOk result (λ dir. dir ≡ dir_at tree.now text.now) }
 {
     match resolve(alloc, tree, text, Mode::Plain) {

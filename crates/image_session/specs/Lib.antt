@@ -1,3 +1,4 @@
+pub mod Adopted
 pub mod Aux
 pub mod Edit
 pub mod Faults

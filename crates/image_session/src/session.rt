@@ -3,6 +3,7 @@ ghost use Rattle.std.specs.Prelude.{◌≡◌, IfErr, IfOk};
 ghost use Rattle.aux_cache.specs.Stamps.{AreRecordable};
 ghost use Rattle.image_session.specs.Aux.{damage_of_slot, stamps_of_slot};
 ghost use Rattle.image_session.specs.Reading.{says};
+ghost use Rattle.image_session.specs.Adopted.{Adopts};
 ghost use Rattle.image_session.specs.Session.{IsImageOf, Loads, LoadsFrom, ReadsBoth};
 
 use crate::fault::{LoadFault, SlotFault};
@@ -120,5 +121,20 @@ impl Session {
     {
         let readings = read_both(alloc, disk, source)?;
         image_of(alloc, readings)
+    }
+
+    /// Makes an image of this tree, as if it had been loaded and edited: the next update writes its manifest. Only the auxiliary cache is
+    /// read. After an error the tree is dropped.
+    pub fn adopt<D: Disk>(alloc: Global, disk: &mut D, tree: Tree) -> Result<Session, LoadFault>
+        ensures adopts { Adopts tree result (D.state disk.old) (D.state disk.new) }
+    {
+        let content = read_slot(alloc, disk, Slot::Aux)?;
+        let AuxStamps { stamps, damaged } = stamps_of(alloc, content)?;
+        Ok(Session {
+            tree,
+            stamps,
+            edited: true,
+            damaged,
+        })
     }
 }

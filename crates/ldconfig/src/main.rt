@@ -2,26 +2,26 @@
 #![tactic(auto)]
 
 mod asking;
-mod print;
 mod root;
-mod update;
 
-use asking::run_asking;
+use asking::{is_files, run_asking};
+use cache_answers::{Sought, note_other_abis, print_text};
 use command_runs::Status;
-use command_words::{Command, Form, help_of};
+use command_words::{Command, help_of};
 use device_rules::{RunId, SlotPaths};
 use diagnostics::{
     EDITS_NOT_WRITTEN, LIST_LACKS, StartFault, USAGE, advice, is_part_of_list, note_long_script,
-    note_manifest, note_names, note_script, note_size, note_update, usage_of, written_before,
+    note_manifest, note_names, note_program, note_script, note_size, note_update, note_words,
+    only_path, usage_of, written_before,
 };
 use image_folder::HeldFile;
 use ldconfig_cli::{Arguments, run_on};
-use print::print_text;
+use lib_types::{NoMemory, Text};
 use root::run_root;
 use root_jobs::word_of;
 use root_words::is_root_command;
 use standard_streams::{OUT_OF_MEMORY, Streams, or_out_of_memory, write_error_line, write_text};
-use std::alloc::AllocError;
+use std::alloc::{AllocError, Global};
 use std::io::{Error, ErrorKind};
 use std::process::ExitCode;
 use std::random::RandomSource;
@@ -69,6 +69,7 @@ fn explain<R: Runtime + AllocGlobal + Streams>(
     store: &FolderStore<R>,
     disk: &mut FolderDisk<R>,
     input: &StdinSource<R>,
+    only: Option<&Text>,
 ) -> io::Result<()>
 where
     R::File: HeldFile,
@@ -90,6 +91,7 @@ where
         Status::BadScript { line, kind } => note_script(rt, input, line, kind),
         Status::TooLong { .. } => note_long_script(rt),
         Status::TooMany { .. } | Status::TooLarge { .. } => note_size(rt, status, None),
+        Status::NoProgram | Status::BadProgram(_) => note_program(rt, status, only),
         Status::OutputFault => say(rt, written_before(written.manifest, written.cache)),
         Status::Usage => say_usage(rt),
         _ => say(rt, advice(status)),
@@ -177,6 +179,11 @@ where
     let mut input = StdinSource::new(rt.clone()?);
     let mut output = StdoutSink::new(rt.clone()?);
     let is_list = is_list(arguments.command());
+    let sought = Sought::of(rt.alloc(), arguments.command())?;
+    let only = only_path_of(rt.alloc(), arguments.command())?;
+    if let Some(fault) = arguments.fault() {
+        let _ = or_out_of_memory(rt, note_words(rt, arguments.first(), fault));
+    }
     let devices = Devices {
         store: &mut store,
         disk: &mut disk,
@@ -185,18 +192,29 @@ where
     };
     let status = run_on(rt.alloc(), arguments, devices);
     // If a line can't be written, nothing changes.
-    let _ = if is_list && is_part_of_list(status) {
-        write_text(rt, LIST_LACKS)
-    } else {
-        or_out_of_memory(rt, explain(rt, status, &store, &mut disk, &input))
+    let _ = match &sought {
+        Some(sought) if status == Status::Missing => note_other_abis(rt, None, &mut disk, sought),
+        _ if is_list && is_part_of_list(status) => write_text(rt, LIST_LACKS),
+        _ => or_out_of_memory(
+            rt,
+            explain(rt, status, &store, &mut disk, &input, only.as_ref()),
+        ),
     };
     Ok(status.code())
+}
+
+// The path whose libraries are listed, if the command lists those of one path alone.
+fn only_path_of(alloc: Global, command: Option<&Command>) -> Result<Option<Text>, NoMemory> {
+    match command {
+        Some(Command::Resolve(asked)) => only_path(alloc, asked),
+        _ => Ok(None),
+    }
 }
 
 // Whether the command writes a list of files.
 fn is_list(command: Option<&Command>) -> bool {
     match command {
-        Some(Command::Resolve(asked)) => asked.form != Form::Listing,
+        Some(Command::Resolve(asked)) => is_files(asked.form),
         _ => false,
     }
 }
@@ -209,7 +227,7 @@ fn disk_of<R: Runtime>(
 ) -> Result<FolderDisk<R>, StartFault> {
     let (own, paths) = (rt.clone()?, SlotPaths::usual());
     match command {
-        Some(Command::Update { .. } | Command::Batch { .. }) => {
+        Some(Command::Update { .. } | Command::Batch { .. } | Command::Layers { .. }) => {
             Ok(FolderDisk::locking(own, ".", id, paths)?)
         }
         _ => Ok(FolderDisk::new(own, ".", id, paths, None)?),

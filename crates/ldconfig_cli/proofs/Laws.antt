@@ -1,7 +1,7 @@
 -- Facts about updates that hold for every command.
 use Rattle.hwcap_dirs.specs.declared.kinds.Scope.TheVariants.{Image}
 use Rattle.ldconfig_core.proofs.OneText.{one_update, one_written, some_texts}
-use Rattle.library_search.proofs.Honest.{info_law, stamps_true}
+use Rattle.library_search.proofs.Reliable.{info_law, stamps_true}
 use Rattle.ldconfig_cli.specs.Laws.{UpdateLaws}
 
 pub laws : UpdateLaws

@@ -1,5 +1,5 @@
 //! The arguments, with the command that they name.
-ghost use Rattle.std.specs.Prelude.{◌≡◌, ◌≢◌, IfOk, None, OnErr, option_copied, option_map};
+ghost use Rattle.std.specs.Prelude.{◌≡◌, ◌≢◌, IfOk, IfSome, None, OnErr, option_copied, option_map};
 ghost use Rattle.command_words.specs.Language.{verb_in};
 ghost use Rattle.command_words.specs.Words.{command_in, root_in};
 ghost use Rattle.ldconfig_cli.specs.Runs.{texts_of};
@@ -14,6 +14,7 @@ use std::marker::Model;
 pub struct Arguments<'a> {
     words: &'a Vec<String>,
     line: Option<CommandLine>,
+    fault: Option<WordsFault>,
 }
 
 impl<'a> Model for Arguments<'a> {
@@ -38,9 +39,14 @@ impl<'a> Arguments<'a> {
             Ok(line) => Ok(Arguments {
                 words,
                 line: Some(line),
+                fault: None,
             }),
-            Err(WordsFault::Usage) => Ok(Arguments { words, line: None }),
             Err(WordsFault::NoMemory) => Err(NoMemory),
+            Err(fault) => Ok(Arguments {
+                words,
+                line: None,
+                fault: Some(fault),
+            }),
         }
     }
 
@@ -51,6 +57,21 @@ impl<'a> Arguments<'a> {
         match &self.line {
             Some(line) => Some(&line.command),
             None => None,
+        }
+    }
+
+    /// The first argument.
+    pub fn first(&self) -> Option<&String> {
+        self.words.first()
+    }
+
+    /// Why the arguments name no command, if they name none.
+    pub fn fault(&self) -> Option<&WordsFault>
+        ensures { IfSome result (λ _. command_in self.now ≡ None) }
+    {
+        match &self.line {
+            Some(_) => None,
+            None => self.fault.as_ref(),
         }
     }
 
@@ -68,7 +89,12 @@ impl<'a> Arguments<'a> {
     pub fn into_command(self) -> Option<Command>
         ensures { result ≡ command_in self.entry }
     {
-        match self.line {
+        let Arguments {
+            words: _,
+            line,
+            fault: _,
+        } = self;
+        match line {
             Some(line) => Some(line.command),
             None => None,
         }

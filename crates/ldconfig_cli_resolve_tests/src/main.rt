@@ -11,5 +11,5 @@ use std::process::ExitCode;
 use table_rows::{status, try_tables};
 
 fn main(rt: HostRuntime) -> io::Result<ExitCode> {
-    Ok(status(try_tables::<Listed>(&rt, &["listings", "refusals"])?))
+    Ok(status(try_tables::<Listed>(&rt, &["listings", "refusals", "lists"])?))
 }

@@ -19,7 +19,7 @@ use Rattle.file_stamps.specs.Stamped.{AreSame, AreTrue}
 use Rattle.lib_types.specs.declared.entry.Entry.{Entry}
 use Rattle.tree_face.specs.Store.{Contents}
 use Rattle.update_report.specs.Report.{report_text}
-use Rattle.library_search.proofs.Honest.{info_law}
+use Rattle.library_search.proofs.Reliable.{info_law}
 use Rattle.library_search.specs.Begun.{after_keys, wanted_keys}
 use Rattle.library_search.specs.Laws.{IsInfoRight}
 use Rattle.library_search.specs.Judged.{judged}

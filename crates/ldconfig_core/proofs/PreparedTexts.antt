@@ -14,7 +14,7 @@ use Rattle.image_tree.specs.Tree.{Nodes, IsTree}
 use Rattle.update_report.specs.Report.{report_text}
 use Rattle.ldconfig_core.proofs.LookedUp.{names_descend, searched}
 use Rattle.ldconfig_core.proofs.OutcomeRows as rows
-use Rattle.library_search.proofs.Honest.{info_law}
+use Rattle.library_search.proofs.Reliable.{info_law}
 use Rattle.library_search.proofs.Limits.{over, within}
 use Rattle.ldconfig_core.specs.declared.fault.UpdateFault.{UpdateFault}
 use Rattle.ldconfig_core.specs.declared.fault.UpdateFault.TheVariants as faults
@@ -43,7 +43,7 @@ use Rattle.ldconfig_core.specs.Outcome.{TooLarge, TooMany, Writes, is_too_long, 
 use Rattle.ldconfig_core.specs.Settled.{AreSettled, IfReads, planned_image}
 use Rattle.ldconfig_core.specs.Stages.{HasTooMany, IsMadeOf, IsTooLarge, entries_of, report_input_of, stored_image, texts_of}
 use Rattle.ldconfig_core.specs.Texts.{AreTexts, AreTextsOf, report_input_with}
-use Rattle.ldconfig_core.specs.Update.{AreUpdateTexts, IfHonestIn, IfHonestly, IsAnswer, IsUpdated, update_ending}
+use Rattle.ldconfig_core.specs.Update.{AreUpdateTexts, IfReliableIn, IfReliably, IsAnswer, IsUpdated, update_ending}
 use Rattle.tree_face.proofs.Known.{known_then}
 
 -- the number of failed calls rose, or a content isn't held
@@ -100,7 +100,7 @@ module _ (scope : Scope) (s : Loaded) (found : Found) (tree : Nodes) (alike : Is
     }) is.skips_are ∙ rw (is.conf.reports, is.places, is.absent_is, is.plan, is.blocked_is, is.mixed_is, is.dangling_is, is.opened) refl
 
     -- the image is settled: another update of it plans no link
-    settled_is : IsTree tree → IsSettled (judged scope (info_wanted scope held s.tree s.stamps)) s.tree (places_in scope held s.tree) tree → IfHonestIn held s (AreSettled scope held s (planned_image scope held s))
+    settled_is : IsTree tree → IsSettled (judged scope (info_wanted scope held s.tree s.stamps)) s.tree (places_in scope held s.tree) tree → IfReliableIn held s (AreSettled scope held s (planned_image scope held s))
     settled_is is_tree still are same =
         subst (λ (n : Nodes). AreSettled scope held s (stored_image n (stamps_in scope held s.tree s.stamps))) is.tree_is (are_settled scope held s tree alike is.tree_is still is_tree are same)
 
@@ -121,7 +121,7 @@ module _ (scope : Scope) (s : Loaded) (found : Found) (tree : Nodes) (alike : Is
       image_is : stored_image tree prepared.stamps ≡ planned_image scope held s
       image_is = ap (λ (n : Nodes). stored_image n prepared.stamps) is.tree_is ∙ ap (stored_image (planned_in scope held s.tree s.stamps)) (made.stamps ∙ is.stamps)
 
-      is_updated : IfHonestIn held s (AreSettled scope held s (planned_image scope held s)) → IsUpdated scope held s (stored_image tree prepared.stamps, prepared.report)
+      is_updated : IfReliableIn held s (AreSettled scope held s (planned_image scope held s)) → IsUpdated scope held s (stored_image tree prepared.stamps, prepared.report)
       is_updated settled = record {
         planned = image_is;
         reads = subst (λ (manifest : Option (List ℕ)). IfReads manifest (stored_image tree prepared.stamps)) (made.manifest ∙ manifest_is) made.reads;
@@ -138,11 +138,11 @@ module _ (scope : Scope) (s : Loaded) (found : Found) (tree : Nodes) (alike : Is
   module _ (known : Option Contents) (is : IfKnown known (λ held. IsFound scope held s.tree s.stamps found tree)) where
     -- the image with the planned links is settled
     pub settled_by : IsTree tree → IfKnown known (λ held. IsSettled (judged scope (info_wanted scope held s.tree s.stamps)) s.tree (places_in scope held s.tree) tree)
-        → IfHonestly known s (λ held. AreSettled scope held s (planned_image scope held s))
+        → IfReliably known s (λ held. AreSettled scope held s (planned_image scope held s))
     settled_by is_tree still = by known is still
       where
         by : (k : Option Contents) → IfKnown k (λ held. IsFound scope held s.tree s.stamps found tree) → IfKnown k (λ held. IsSettled (judged scope (info_wanted scope held s.tree s.stamps)) s.tree (places_in scope held s.tree) tree)
-            → IfHonestly k s (λ held. AreSettled scope held s (planned_image scope held s))
+            → IfReliably k s (λ held. AreSettled scope held s (planned_image scope held s))
         by None is still = tt
         by (Some held) is still = settled_is held is is_tree still
 
@@ -152,7 +152,7 @@ module _ (scope : Scope) (s : Loaded) (found : Found) (tree : Nodes) (alike : Is
     follows : (P : Contents → Type 0) → ((held : Contents) → IsFound scope held s.tree s.stamps found tree → P held) → If P
     follows P f = known_then known (λ held. IsFound scope held s.tree s.stamps found tree) P f is
 
-    module _ (prepared : Prepared) (made : IsMadeOf scope s.edited s.damaged found tree prepared) (settled : IfHonestly known s (λ held. AreSettled scope held s (planned_image scope held s))) where
+    module _ (prepared : Prepared) (made : IsMadeOf scope s.edited s.damaged found tree prepared) (settled : IfReliably known s (λ held. AreSettled scope held s (planned_image scope held s))) where
       texts_alone : AreTexts (texts_of prepared)
       texts_alone = record {
         info = report_input_of s.damaged found made.entries;
@@ -175,7 +175,7 @@ module _ (scope : Scope) (s : Loaded) (found : Found) (tree : Nodes) (alike : Is
         finds = follows (λ held. FindsAsSearched scope held s.tree s.stamps prepared.cache.items)
             (λ held is. searched scope held s.tree s.stamps made.entries prepared.cache.items (ordered held is prepared made) made.read_back);
         counted = follows (λ held. length (update_keys scope held s.tree s.stamps) ≡ length (conf_keys (conf_of scope) held s.tree) + opened_in scope held s.tree s.stamps) (λ held is. is.counted);
-        right = follows (λ held. IfHonestIn held s (IsInfoRight scope held s.tree s.stamps)) (λ held is are same. info_law scope held s.tree same s.stamps are);
+        right = follows (λ held. IfReliableIn held s (IsInfoRight scope held s.tree s.stamps)) (λ held is are same. info_law scope held s.tree same s.stamps are);
         settles = settled;
         reads = follows (λ held. IfReads (texts_of prepared).manifest (planned_image scope held s))
             (λ held is. subst (λ (n : Nodes). IfReads (texts_of prepared).manifest (stored_image n (stamps_in scope held s.tree s.stamps))) is.tree_is made.reads);
@@ -184,7 +184,7 @@ module _ (scope : Scope) (s : Loaded) (found : Found) (tree : Nodes) (alike : Is
       pub updated_is : If (λ held. IsUpdated scope held s (stored_image tree prepared.stamps, prepared.report))
       updated_is = by known is settled
         where
-          by : (k : Option Contents) → IfKnown k (λ held. IsFound scope held s.tree s.stamps found tree) → IfHonestly k s (λ held. AreSettled scope held s (planned_image scope held s))
+          by : (k : Option Contents) → IfKnown k (λ held. IsFound scope held s.tree s.stamps found tree) → IfReliably k s (λ held. AreSettled scope held s (planned_image scope held s))
               → IfKnown k (λ held. IsUpdated scope held s (stored_image tree prepared.stamps, prepared.report))
           by None is settled = tt
           by (Some held) is settled = is_updated held is prepared made settled

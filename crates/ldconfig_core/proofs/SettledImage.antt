@@ -32,7 +32,7 @@ use Rattle.image_tree.specs.declared.tree.TheConstants.{NODES_MAX}
 use Rattle.tree_face.specs.Store.{Contents}
 use Rattle.image_tree.specs.Tree.{Nodes, IsTree, node_at}
 use Rattle.library_search.proofs.FilesAgree.{content_same, id_same, key_same, what_same}
-use Rattle.library_search.proofs.Honest.{after_in_order, after_lack, info_is, stamps_true, wanted_in_order, wanted_is, wanted_lack}
+use Rattle.library_search.proofs.Reliable.{after_in_order, after_lack, info_is, stamps_true, wanted_in_order, wanted_is, wanted_lack}
 use Rattle.library_search.proofs.StampsAgree.{ids_there_same, keys_same}
 use Rattle.ldconfig_core.proofs.OneText.{one_entries}
 use Rattle.library_search.proofs.Limits.{within}

@@ -21,7 +21,7 @@ use Rattle.ldconfig_core.specs.Lookup.{FindsAsSearched}
 use Rattle.ldconfig_core.specs.Outcome.{Outcome, Lacking, TooLarge, TooMany, Writes, new_manifest, update_outcome}
 use Rattle.atomic_replace.specs.OneByOne.{KeepsRestMade, WritesAll, WritesPart}
 use Rattle.image_session.specs.Session.{Loaded}
-use Rattle.file_stamps.specs.Stamped.{AreSame, AreTrue, IfHonest}
+use Rattle.file_stamps.specs.Stamped.{AreSame, AreTrue, IfReliable}
 use Rattle.ldconfig_core.specs.Settled.{AreSettled, IfReads, planned_image}
 use Rattle.ldconfig_core.specs.Texts.{AreTexts, AreTextsOf, UpdateTexts, update_slots, writes_of}
 
@@ -54,8 +54,8 @@ ReadsUpdate scope s ending old new = ReadsFinding scope s.tree s.stamps ending o
 -- ---- the disk
 
 -- a fact about an image, assuming that contents are known, its stamps are true, and equal identities imply equal contents
-abbrev pub IfHonestly : Option Contents → Loaded → (Contents → Type 0) → Type 0
-IfHonestly known s P = IfHonest known s.tree s.stamps P
+abbrev pub IfReliably : Option Contents → Loaded → (Contents → Type 0) → Type 0
+IfReliably known s P = IfReliable known s.tree s.stamps P
 
 -- the texts of the update of this image, if contents are known
 pub record AreUpdateTexts (scope : Scope) (s : Loaded) (known : Option Contents) (texts : UpdateTexts) : Type 0 where
@@ -67,8 +67,8 @@ pub record AreUpdateTexts (scope : Scope) (s : Loaded) (known : Option Contents)
   pub counted : IfKnown known (λ held. length (update_keys scope held s.tree s.stamps) ≡ length (conf_keys (conf_of scope) held s.tree) + opened_in scope held s.tree s.stamps)
   -- Assuming that stamps are true and equal identities imply equal contents, all analyses are right. An update without stamps then gives
   -- the same, and the image is settled.
-  pub right : IfHonestly known s (λ held. IsInfoRight scope held s.tree s.stamps)
-  pub settles : IfHonestly known s (λ held. AreSettled scope held s (planned_image scope held s))
+  pub right : IfReliably known s (λ held. IsInfoRight scope held s.tree s.stamps)
+  pub settles : IfReliably known s (λ held. AreSettled scope held s (planned_image scope held s))
   pub reads : IfKnown known (λ held. IfReads texts.manifest (planned_image scope held s))
 
 -- the update's texts are written, and this is its report
@@ -102,15 +102,15 @@ pub record IsReportFor (scope : Scope) (held : Contents) (s : Loaded) (report : 
   pub opened : report.opened ≡ opened_in scope held s.tree s.stamps
 
 -- a fact about an image, assuming that its stamps are true and equal identities imply equal contents
-abbrev pub IfHonestIn : Contents → Loaded → Type 0 → Type 0
-IfHonestIn held s P = AreTrue held s.tree s.stamps → AreSame held s.tree s.tree → P
+abbrev pub IfReliableIn : Contents → Loaded → Type 0 → Type 0
+IfReliableIn held s P = AreTrue held s.tree s.stamps → AreSame held s.tree s.tree → P
 
 -- The updated image is the one with the planned links and its stamps. A written manifest reads as its tree.
 pub record IsUpdated (scope : Scope) (held : Contents) (s : Loaded) (updated : Loaded × Report) : Type 0 where
   pub planned : updated.0 ≡ planned_image scope held s
   pub reads : IfReads (new_manifest scope held s) updated.0
   pub report : IsReportFor scope held s updated.1
-  pub settled : IfHonestIn held s (AreSettled scope held s updated.0)
+  pub settled : IfReliableIn held s (AreSettled scope held s updated.0)
 
 -- ---- one update
 

@@ -22,7 +22,7 @@ use Rattle.ldd_resolve.specs.declared.kinds.Scope.{Scope}
 abbrev pub Outcome : Type 0
 Outcome = Result Scope ResolveFault
 
--- This is what the program at this path loads, or the reason why there is no program; these files are opened.
+-- This is what the program at this path loads, or why it has none; these files are opened.
 pub record ResolvesOne (known : Option Contents) (t : Nodes) (cache : Option (List CachedEntry)) (env : Env) (path : List ℕ) (outcome : Outcome) (old new : StoreState) : Type 0 where
   pub is : IfOk outcome (λ scope. IfKnown known (λ held. IsScope t cache path env held scope))
   pub no_program : IsNoProgram (program_at t path) outcome

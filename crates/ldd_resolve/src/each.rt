@@ -11,7 +11,7 @@ use rpath_search::{Env, SearchFault};
 use std::alloc::Global;
 use tree_face::{Store, Tree};
 
-// The scope, or why there is no program, or the fault that ends the run.
+// The scope, or why the path has no program, or the fault that ends the run.
 fn divided(outcome: Result<Scope, ResolveFault>) -> Result<Result<Scope, ProgramFault>, SearchFault>
     ensures { outcome_in result ≡ outcome }
 {
@@ -24,7 +24,7 @@ fn divided(outcome: Result<Scope, ResolveFault>) -> Result<Result<Scope, Program
     }
 }
 
-// What the program at this path loads, or why there is no program.
+// What the program at this path loads, or why it has none.
 fn resolve_one<S: Store>(
     alloc: Global,
     tree: &Tree,

@@ -42,7 +42,7 @@ pub struct Scope {
     pub found: Texts,
 }
 
-/// Why there is no program at a path.
+/// Why a path has no program.
 #[derive(Clone, Copy, Debug, PartialEq, Eq)]
 pub enum ProgramFault {
     /// The path leads to no file.
@@ -51,7 +51,7 @@ pub enum ProgramFault {
     BadProgram(Defect),
 }
 
-/// A path with the objects that the program there loads, or why there is no program.
+/// A path with the objects that the program there loads, or why it has none.
 #[derive(Drop)]
 pub struct ProgramScope {
     pub path: Text,

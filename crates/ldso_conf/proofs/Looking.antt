@@ -27,17 +27,6 @@ use Rattle.ldso_conf.specs.declared.steps.Step.{Step}
 
 -- ---- the lines of a file
 
--- a line without patterns
-pub no_patterns : (of list : List ℕ → List ℕ → List (List ℕ)) (file : List ℕ) (patterns : Option (List ℕ)) (s : ViewState) → patterns ≡ None
-    → LooksUp (include_paths of file patterns) (include_paths list file patterns) s s
-no_patterns of list file patterns s none = rw none (looks_none [] [] s)
-
--- the first of the items that are left
-pub first_on : {X : Type 0} (f g : X → List (List ℕ)) (paths dirs : List (List ℕ)) (x : X) (xs : List X) (a b c : ViewState)
-    → LooksBut paths (flat_map f (x ∷ xs)) dirs (flat_map g (x ∷ xs)) a b → IsSameView a b → LooksUp (f x) (g x) b c
-    → LooksBut paths (flat_map f xs) dirs (flat_map g xs) a c
-first_on f g paths dirs x xs a b c first same next = looks_on paths dirs (f x) (flat_map f xs) (g x) (flat_map g xs) a b c first same next
-
 -- ---- items
 
 module _ (t : Nodes) where

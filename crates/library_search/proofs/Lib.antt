@@ -3,7 +3,7 @@ mod Bests
 pub mod Endings
 pub mod FilesAgree
 pub mod FoundParts
-pub mod Honest
+pub mod Reliable
 pub mod Judged
 pub mod KeysBegun
 pub mod KnownParts

@@ -20,9 +20,6 @@ looked_by_view : (o : Option FolderContent) (x : Looked) (P : Nodes → Type 0) 
 looked_by_view None x P f = tt
 looked_by_view (Some c) x P f = f
 
-pub if_looked : (a : FolderState) (x : Looked) (P : Nodes → Type 0) → (IsViewOf a x → P (tree_of a.contents)) → IfLooked a x P
-if_looked a x P f = looked_by_view a.contents x P f
-
 has_looked : (o : Option FolderContent) (x y : Looked) (paths dirs : Asked) → IfKnown o (λ c. IsLookedOf c.now x → IsLookedOf c.now y)
     → (IsSomeAnd o (λ c. IsLookedOf c.now x)
     → (y.seen.looked ≡ with_paths x.seen.looked (paths (tree_of o))) × (keys_of y.lists ≡ with_dirs (keys_of x.lists) (dirs (tree_of o))))

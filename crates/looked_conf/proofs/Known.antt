@@ -14,7 +14,7 @@ use Rattle.root_folder.specs.Folder.{FolderContent, FolderState, KeepsFolder}
 use Rattle.root_tree.specs.ReadTree.{ReadsOn}
 use Rattle.root_tree.specs.declared.fault.TreeRead.{TreeRead}
 use Rattle.root_tree.specs.declared.fault.TreeRead.TheVariants as reads
-use Rattle.seen_tree.proofs.Calls.{fails_on}
+use Rattle.root_tree.proofs.Readings.{fails_on}
 use Rattle.seen_tree.specs.Part.{looked_by}
 use Rattle.seen_tree.specs.Seen.{IsFull}
 use Rattle.tree_face.specs.Known.{IfKnown}

@@ -15,12 +15,11 @@ ghost use Rattle.seen_tree.specs.Seen.{IsFull};
 ghost use Rattle.tree_face.specs.Known.{IfKnown};
 
 use conf_patterns::glob_match;
-use conf_patterns::patterns::place_of;
-use lib_types::trim::{after, before_last, has_one};
-use lib_types::{NoMemory, Parts, Separator, Text, split};
+use conf_patterns::patterns::{base_of, components_of, is_wild, place_of};
+use lib_types::{NoMemory, Text};
 use looked_tree::{LookedPart, NameTest};
 use name_order::is_library_name;
-use path_walk::{Mode, is_absolute, join};
+use path_walk::{Mode, join};
 use root_folder::Folder;
 use root_tree::TreeRead;
 use std::alloc::Global;
@@ -38,33 +37,6 @@ impl<'a> NameTest for Matching<'a> {
     fn passes(&self, name: &[u8]) -> bool {
         glob_match(self.component, name)
     }
-}
-
-// The path that a pattern's components are relative to.
-fn base_of<'a>(file: &'a [u8], pattern: &[u8]) -> &'a [u8]
-    ensures { result.now ≡ base_of file.now pattern.now }
-{
-    if is_absolute(pattern) {
-        b""
-    } else {
-        before_last(b"/", file)
-    }
-}
-
-fn components_of(pattern: &[u8]) -> Parts<'_>
-    ensures { result ≡ components_of pattern.now }
-{
-    if is_absolute(pattern) {
-        split(Separator::In(b"/"), after(pattern, 1))
-    } else {
-        split(Separator::In(b"/"), pattern)
-    }
-}
-
-fn is_wild(component: &[u8]) -> bool
-    ensures { result ≡ is_wild component.now }
-{
-    has_one(b"*?[", component)
 }
 
 // Whether the name is that of a symlink that ldconfig makes.

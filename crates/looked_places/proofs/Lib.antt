@@ -1,3 +1,2 @@
 pub mod LibraryNames
 pub mod SearchDirs
-pub mod Sonames

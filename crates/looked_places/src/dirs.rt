@@ -1,6 +1,6 @@
 //! Looks up the search directories.
 ghost use Rattle.std.specs.Prelude.{◌≡◌, ◌++◌, [], IfOk, IsErrOf, OnOk, flat_map};
-ghost use Rattle.hwcap_dirs.specs.Places.{builtin_dirs, dir_at, hwcaps, is_dir};
+ghost use Rattle.hwcap_dirs.specs.Places.{builtin_dirs, dir_at, hwcaps};
 ghost use Rattle.image_tree.specs.Paths.{join};
 ghost use Rattle.looked_places.specs.Listed.{caps_listed, places_listed};
 ghost use Rattle.looked_places.specs.Plain.{plain_listed, plain_looked};
@@ -13,40 +13,13 @@ ghost use Rattle.seen_tree.specs.Part.{looked_by};
 ghost use Rattle.seen_tree.specs.Seen.{IsFull};
 
 use crate::names::Shown;
-use hwcap_dirs::{Place, Scope, next_builtin_dir, order};
+use hwcap_dirs::{Place, Scope, dir_at, next_builtin_dir, order};
 use lib_types::{HWCAPS_DIR, NoMemory, Text, Texts};
 use looked_tree::LookedPart;
-use path_walk::{Mode, WalkFault, join, resolve};
+use path_walk::{Mode, join};
 use root_folder::Folder;
 use root_tree::TreeRead;
 use std::alloc::Global;
-use tree_face::{Kind, Tree};
-
-fn is_dir(kind: Kind) -> bool
-    ensures { result ≡ is_dir kind }
-{
-    match kind {
-        Kind::Dir => true,
-        Kind::Absent | Kind::File | Kind::Link => false,
-    }
-}
-
-// The directory that a path resolves to, if it resolves to a directory.
-fn dir_at(alloc: Global, tree: &Tree, text: &[u8]) -> Result<Option<Text>, NoMemory>
-    ensures { IfOk result (λ dir. dir ≡ dir_at tree.now text.now) }
-{
-    match resolve(alloc, tree, text, Mode::Plain) {
-        Ok(place) => {
-            if is_dir(tree.kind(place.as_bytes())) {
-                Ok(Some(place))
-            } else {
-                Ok(None)
-            }
-        }
-        Err(WalkFault::NoMemory) => Err(NoMemory),
-        Err(_) => Ok(None),
-    }
-}
 
 // Looks up what the resolutions of these paths need.
 fn see_texts<F: Folder>(

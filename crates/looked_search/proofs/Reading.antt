@@ -7,7 +7,7 @@ use Rattle.looked_tree.specs.Looked.{Looked}
 use Rattle.root_folder.specs.Folder.{FolderState}
 use Rattle.root_tree.specs.ReadTree.{HasRead, ReadsOn}
 use Rattle.root_tree.specs.declared.fault.TreeRead.{TreeRead}
-use Rattle.seen_tree.proofs.Calls.{fails_on, read_on}
+use Rattle.root_tree.proofs.Readings.{fails_on, read_on}
 use Rattle.looked_search.specs.Faults.{FailsOn, ReadsFolder, of_look}
 use Rattle.looked_search.specs.declared.fault.SearchFault.{SearchFault}
 use Rattle.looked_search.specs.declared.fault.SearchFault.TheVariants.{Tree, Find}

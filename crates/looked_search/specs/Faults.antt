@@ -1,5 +1,5 @@
 -- Why the search of a directory fails, from the errors of its parts, and what was done to the directory before.
-use Rattle.std.specs.Prelude.{Result, Ok, Err}
+use Rattle.std.specs.Prelude.{Bool, true, false, Result, Ok, Err}
 use Rattle.library_search.specs.declared.fault.FindFault.TheVariants as finding
 use Rattle.looked_conf.specs.declared.fault.LookFault.{LookFault}
 use Rattle.looked_conf.specs.declared.fault.LookFault.TheVariants as looking
@@ -21,3 +21,17 @@ FailsOn (Find why) old new = HasRead old new
 abbrev pub ReadsFolder : {A : Type 0} → Result A SearchFault → FolderState → FolderState → Type 0
 ReadsFolder (Ok found) old new = HasRead old new
 ReadsFolder (Err fault) old new = FailsOn fault old new
+
+-- an error of reading the conf files or of looking up paths
+abbrev pub is_of_seeing : SearchFault → Bool
+is_of_seeing (Tree why) = true
+is_of_seeing (Find finding.StoreFault) = true
+is_of_seeing (Find finding.NoMemory) = true
+is_of_seeing (Find (finding.TooLarge nodes)) = false
+
+-- an error of looking up paths
+abbrev pub is_of_looking : SearchFault → Bool
+is_of_looking (Tree why) = true
+is_of_looking (Find finding.StoreFault) = false
+is_of_looking (Find finding.NoMemory) = true
+is_of_looking (Find (finding.TooLarge nodes)) = false

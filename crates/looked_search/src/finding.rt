@@ -1,12 +1,14 @@
 //! The search of a directory.
-ghost use Rattle.std.specs.Prelude.{◌≡◌, IfOk, IsTrue};
+ghost use Rattle.std.specs.Prelude.{◌≡◌, ℕ, IfErr, IfOk, IsErrOf, IsTrue, true};
 ghost use Rattle.aux_cache.specs.Stamps.{AreRecordable};
 ghost use Rattle.file_table.specs.Table.{analysis_at};
 ghost use Rattle.hwcap_dirs.specs.Places.{are_dirs, are_spelled};
 ghost use Rattle.image_tree.specs.Tree.{IsTree};
 ghost use Rattle.library_files.specs.Search.{followed};
-ghost use Rattle.looked_search.specs.Faults.{ReadsFolder};
+ghost use Rattle.library_search.specs.declared.fault.FindFault.TheVariants as finding;
+ghost use Rattle.looked_search.specs.Faults.{ReadsFolder, is_of_looking};
 ghost use Rattle.looked_search.specs.Finding.{AddsLinks};
+ghost use Rattle.looked_search.specs.Opened.{HasNoRoomFor, OpensFiles, search_ending};
 ghost use Rattle.place_libraries.specs.Best.{bests_of};
 ghost use Rattle.seen_update.specs.Found.{FindsOf};
 ghost use Rattle.soname_links.specs.Apply.{is_plan};
@@ -45,6 +47,7 @@ fn with_sonames<F: Folder>(
     ensures links { IfOk result (λ part. part.found.followed.links ≡ followed part.tree part.found.search.dirs.places) }
     ensures bests { IfOk result (λ part. part.found.links.bests ≡ bests_of (analysis_at part.found.search.files.table) part.tree part.found.search.dirs.places) }
     ensures reads { ReadsFolder result (F.state folder.old) (F.state folder.new) }
+    ensures others { IfErr result (λ fault. is_of_looking fault ≡ true) }
 {
     let mut tree = tree;
     let search = found.search;
@@ -84,6 +87,9 @@ pub fn find_part<F: Folder, S: Store>(
     ensures bests { IfOk result (λ part. part.found.links.bests ≡ bests_of (analysis_at part.found.search.files.table) part.tree part.found.search.dirs.places) }
     ensures is_tree { IfOk result (λ part. IsTree part.tree) }
     ensures reads { ReadsFolder result (F.state folder.old) (F.state folder.new) }
+    ensures opens { OpensFiles scope.now loaded.now (search_ending result) (F.state folder.old) (S.state store.old) (S.state store.new) }
+    ensures too_large { (nodes : ℕ) → IsErrOf result (SearchFault.Find (finding.TooLarge nodes)) →
+        HasNoRoomFor scope.now loaded.now nodes (F.state folder.old) (S.state store.old) }
 {
     let mut looked = LookedPart::new(alloc);
     let conf = see_tree(alloc, scope, &mut looked, folder, store)?;

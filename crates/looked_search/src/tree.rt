@@ -1,9 +1,10 @@
 //! Looks up what a search needs before it reads the libraries.
-ghost use Rattle.std.specs.Prelude.{◌≡◌, IfOk, IsErrOf, OnOk};
+ghost use Rattle.std.specs.Prelude.{◌≡◌, IfErr, IfOk, IsErrOf, OnOk, true};
 ghost use Rattle.hwcap_dirs.specs.Places.{places};
 ghost use Rattle.looked_conf.specs.Conf.{IfLooked};
 ghost use Rattle.looked_places.specs.Listed.{places_listed};
-ghost use Rattle.looked_search.specs.Faults.{ReadsFolder};
+ghost use Rattle.looked_search.specs.Faults.{ReadsFolder, is_of_seeing};
+ghost use Rattle.looked_search.specs.Opened.{OpensConf, search_ending};
 ghost use Rattle.looked_search.specs.Tree.{SeesTree};
 ghost use Rattle.looked_tree.specs.Looked.{Loads};
 ghost use Rattle.root_tree.specs.ReadTree.{ReadsOn};
@@ -51,7 +52,9 @@ pub(crate) fn see_tree<F: Folder, S: Store>(
     store: &mut S,
 ) -> Result<Conf, SearchFault>
     ensures sees { IfOk result (λ conf. SeesTree scope.now conf (F.state folder.old) (F.state folder.new) (S.state store.old) (S.state store.new) looked.old looked.new) }
+    ensures opens { OpensConf scope.now (search_ending result) (F.state folder.old) looked.old (S.state store.old) (S.state store.new) }
     ensures reads { ReadsFolder result (F.state folder.old) (F.state folder.new) }
+    ensures others { IfErr result (λ fault. is_of_seeing fault ≡ true) }
 {
     let conf = see_source(alloc, scope, looked, folder, store)?;
     let dirs = see_dirs(alloc, looked, folder, scope, &conf.dirs)?;

@@ -20,7 +20,9 @@ use Rattle.seen_tree.specs.Seen.{AreNamesOf, Lists, Seen}
 use Rattle.tree_face.proofs.Known.{known_then}
 use Rattle.tree_face.specs.Known.{IfKnown}
 use Rattle.std.proofs.Math.Bool.{or-true}
-use Rattle.looked_tree.proofs.Calls.{no_lists, no_reading, raised_none}
+use Rattle.looked_tree.proofs.Calls.{no_lists}
+use Rattle.root_tree.proofs.Readings.{no_reading}
+use Rattle.seen_tree.proofs.Calls.{raised_none}
 use Rattle.looked_tree.proofs.Loads.{both, kind_looked, known_all, known_both, known_now, same_asked}
 use Rattle.looked_tree.specs.Looked.{HasLooked, IsLookedOf, Loads, Looked, is_dir, is_listed, looked, names_at}
 

@@ -15,7 +15,9 @@ use Rattle.seen_tree.specs.Part.{AreSeen, KeepsNodes}
 use Rattle.seen_tree.specs.Seen.{HasSeen, IsSeenOf, Lists, LooksMore, Seen, Sees, with_dirs, with_path, with_paths}
 use Rattle.tree_face.proofs.Known.{known_then}
 use Rattle.tree_face.specs.Known.{IfKnown}
-use Rattle.looked_tree.proofs.Calls.{lists_none, lists_on, no_lists, no_reading, read_ok, read_on}
+use Rattle.looked_tree.proofs.Calls.{no_lists}
+use Rattle.root_tree.proofs.Readings.{no_reading, read_ok, read_on}
+use Rattle.seen_tree.proofs.Calls.{lists_none, lists_on}
 use Rattle.looked_tree.specs.Looked.{Asked, HasLooked, IsLookedOf, Loads, LoadsPart, Looked, LooksOn, looked}
 
 pub known_all : {A : Type 0} (known : Option A) (P : A → Type 0) → ((a : A) → P a) → IfKnown known P

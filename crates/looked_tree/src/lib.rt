@@ -5,7 +5,6 @@
 mod fault;
 mod listing;
 mod looked;
-mod names;
 mod walking;
 
 pub use listing::NameTest;

@@ -14,14 +14,15 @@ ghost use Rattle.seen_tree.specs.Seen.{IsFull};
 ghost use Rattle.tree_face.specs.Known.{IfKnown};
 
 use crate::looked::LookedPart;
-use crate::names::{joined, next_name};
 use lib_types::{NoMemory, Text};
 use name_order::is_library_name;
-use path_walk::{LINKS_MAX, Mode, is_absolute, join, parted};
+use path_walk::{
+    LINKS_MAX, Mode, is_plain_mode, join, joined, next_name, parent_of, start_of, target_of,
+};
 use root_folder::Folder;
 use root_tree::TreeRead;
 use std::alloc::Global;
-use tree_face::{Kind, Node, Tree};
+use tree_face::{Kind, Tree};
 
 /// Where a walk halts: at a file or a directory, nowhere, or at a link in this directory, which it must follow.
 #[derive(Drop)]
@@ -48,43 +49,6 @@ fn bytes_of(alloc: Global, text: &[u8]) -> Result<Vec<u8>, NoMemory>
     Ok(Vec::from_slice(alloc, text)?)
 }
 
-// The directory of a path.
-fn parent_of(alloc: Global, place: &[u8]) -> Result<Text, NoMemory>
-    ensures { IfOk result (λ folder. folder ≡ parent place.now) }
-{
-    Text::copy_of(alloc, parted(place).0)
-}
-
-// The directory in which a link's target starts.
-fn start_of(alloc: Global, place: Text, target: &[u8]) -> Result<Text, NoMemory>
-    ensures { IfOk result (λ start. start ≡ start_of target.now place) }
-{
-    if is_absolute(target) {
-        Text::copy_of(alloc, b"/")
-    } else {
-        Ok(place)
-    }
-}
-
-// The target of the link at the path.
-fn target_of(alloc: Global, tree: &Tree, path: &[u8]) -> Result<Text, NoMemory>
-    ensures { IfOk result (λ target. target ≡ target_at tree.now path.now) }
-{
-    match tree.node(path) {
-        Some(Node::Link { target }) => Text::copy_of(alloc, target.as_bytes()),
-        _ => Text::copy_of(alloc, b""),
-    }
-}
-
-fn is_plain(mode: Mode) -> bool
-    ensures { result ≡ is_plain_mode mode }
-{
-    match mode {
-        Mode::Plain => true,
-        Mode::Full => false,
-    }
-}
-
 // A walk ends at a file. It ends nowhere if a name follows the file.
 fn halt_at_file<'p>(path: Text, rest: Option<&'p [u8]>) -> Halt<'p>
     ensures { HaltsAt result (at_file (names_in (option_copied rest.entry)) path) }
@@ -105,7 +69,7 @@ fn halt_at_link<'p>(
 ) -> Halt<'p>
     ensures { HaltsAt result (at_link mode name.now target (names_in (option_copied rest.entry)) place) }
 {
-    if is_plain(mode) && is_library_name(name) {
+    if is_plain_mode(mode) && is_library_name(name) {
         return Halt::Nowhere;
     }
     Halt::Link {

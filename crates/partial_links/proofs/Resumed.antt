@@ -23,7 +23,7 @@ use Rattle.image_tree.specs.declared.tree.TheConstants.{NODES_MAX}
 use Rattle.ldso_conf.specs.Reading.{conf_keys, conf_lacks, is_missing, key_begun, reading, reading_of}
 use Rattle.library_files.specs.Search.{reached, wanted}
 use Rattle.library_search.proofs.FilesAgree.{content_same, id_same, key_same, what_same}
-use Rattle.library_search.proofs.Honest.{after_in_order, wanted_in_order}
+use Rattle.library_search.proofs.Reliable.{after_in_order, wanted_in_order}
 use Rattle.library_search.proofs.StampsAgree.{ids_there_same, keys_same, stamps_same}
 use Rattle.library_search.specs.Begun.{after_keys, ids_wanted, wanted_keys}
 use Rattle.library_search.specs.Judged.{judged}

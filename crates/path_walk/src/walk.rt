@@ -107,7 +107,8 @@ fn child_at<'t>(tree: &'t Tree, place: &[u8]) -> Option<Child<'t>>
     }
 }
 
-fn is_plain_mode(mode: Mode) -> bool
+/// Whether links with library names count as absent.
+pub fn is_plain_mode(mode: Mode) -> bool
     ensures { result ≡ is_plain_mode mode }
 {
     match mode {

@@ -61,10 +61,10 @@ fn try_change(
     fs::write(rt, path.as_str(), BEFORE)?;
     let mut real = FolderStore::new(trial.clone()?, ROOT).map_err(|_| no_memory())?;
     let opened = real.begin(KEY.as_bytes());
-    report.expect(opened == Ok(BEFORE.len() as u64), "begin: another length")?;
+    report.expect(opened == Ok(BEFORE.len() as u64), "begin: another length");
     make_change(rt, path.as_str(), change)?;
     if opened.is_ok() {
-        read_changed(trial, &mut real, change, report)?;
+        read_changed(trial, &mut real, change, report);
     }
     Ok(())
 }
@@ -86,49 +86,46 @@ fn make_change(rt: &HostRuntime, path: &str, change: Change) -> io::Result<()> {
 }
 
 // The open file keeps its bytes and its length. If it became shorter, this is an error.
-fn read_changed<S: Store>(
-    trial: &Trial,
-    real: &mut S,
-    change: Change,
-    report: &mut Report<'_>,
-) -> io::Result<()>
+fn read_changed<S: Store>(trial: &Trial, real: &mut S, change: Change, report: &mut Report<'_>)
     requires { IsSome (S.state real.old).size }
 {
     let mut bytes = [0u8; 100];
     let count = real.read_at(0, &mut bytes);
     let lines = trial.plan().take_lines();
     if change == Change::Cut {
-        report.expect(count.is_err(), "read_at: a shorter file is not an error")?;
-        return report.expect(lines == 1, "read_at: not one line for a shorter file");
+        report.expect(count.is_err(), "read_at: a shorter file is not an error");
+        report.expect(lines == 1, "read_at: not one line for a shorter file");
+        return;
     }
-    report.expect(count == Ok(BEFORE.len()), "read_at: another length")?;
-    report.expect(bytes.starts_with(BEFORE), "read_at: other bytes")?;
-    report.expect(lines == 0, "read_at: a line without an error")
+    report.expect(count == Ok(BEFORE.len()), "read_at: another length");
+    report.expect(bytes.starts_with(BEFORE), "read_at: other bytes");
+    report.expect(lines == 0, "read_at: a line without an error");
 }
 
 fn try_aux(rt: &HostRuntime, trial: &Trial, report: &mut Report<'_>) -> io::Result<()> {
     let aux = identity_of(&fs::metadata(rt, file_of(rt, "top")?.as_str())?);
     let image = ImageFolder::new(trial.clone()?, ROOT).map_err(|_| no_memory())?;
     let mut real = FolderStore::without(image, Some(aux));
-    report.expect(real.begin(b"etc/one") == Ok(1), "begin: another result")?;
+    report.expect(real.begin(b"etc/one") == Ok(1), "begin: another result");
     report.expect(
         !real.has_met_aux(),
         "begin: another file taken for the auxiliary cache",
-    )?;
+    );
     report.expect(
         real.has_read_conf(),
         "begin: a conf file taken for a library",
-    )?;
+    );
     report.expect(
         real.begin(b"top").is_err(),
         "begin: opens the auxiliary cache",
-    )?;
+    );
     report.expect(
         real.has_met_aux(),
         "begin: does not know the auxiliary cache",
-    )?;
+    );
     report.expect(
         trial.plan().take_lines() == 1,
         "begin: not one line for its error",
-    )
+    );
+    Ok(())
 }

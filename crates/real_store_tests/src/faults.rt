@@ -49,19 +49,19 @@ fn try_opening(
     plan.fail_after(calls);
     let opened = real.begin(KEY);
     let failed = plan.end_failing().is_some();
-    report.expect(opened.is_err() == failed, "begin: hides an error")?;
+    report.expect(opened.is_err() == failed, "begin: hides an error");
     report.expect(
         plan.take_lines() == u64::from(failed),
         "begin: not one line for its error",
-    )?;
-    report.expect(failed || calls > 0, "begin: makes no call")?;
+    );
+    report.expect(failed || calls > 0, "begin: makes no call");
     report.expect(
         !failed || calls < OPENING - 1,
         "begin: makes too many calls",
-    )?;
+    );
     let again = real.begin(KEY);
-    report.expect(again == Ok(LENGTH as u64), "begin: fails after an error")?;
-    report.expect(real.begun() == 2, "begin: not counted")?;
+    report.expect(again == Ok(LENGTH as u64), "begin: fails after an error");
+    report.expect(real.begun() == 2, "begin: not counted");
     if again.is_ok() {
         read_start(rt, &mut real, report)?;
     }
@@ -77,7 +77,7 @@ fn try_reading(
 ) -> io::Result<()> {
     let mut real = store_of(trial)?;
     let opened = real.begin(KEY);
-    report.expect(opened == Ok(LENGTH as u64), "begin: fails")?;
+    report.expect(opened == Ok(LENGTH as u64), "begin: fails");
     if opened.is_ok() {
         read_twice(rt, trial, calls, &mut real, report)?;
     }
@@ -97,12 +97,12 @@ fn read_twice<S: Store>(
     let mut bytes = [0u8; PIECE];
     plan.fail_after(calls);
     let count = real.read_at(0, &mut bytes);
-    report.expect(plan.end_failing().is_some(), "read_at: makes too few calls")?;
-    report.expect(count.is_err(), "read_at: hides an error")?;
+    report.expect(plan.end_failing().is_some(), "read_at: makes too few calls");
+    report.expect(count.is_err(), "read_at: hides an error");
     report.expect(
         plan.take_lines() == 1,
         "read_at: not one line for its error",
-    )?;
+    );
     read_start(rt, real, report)
 }
 
@@ -112,12 +112,13 @@ fn read_start<S: Store>(rt: &HostRuntime, real: &mut S, report: &mut Report<'_>)
 {
     let mut bytes = [0u8; PIECE];
     let count = real.read_at(0, &mut bytes);
-    report.expect(count == Ok(PIECE), "read_at: fails after an error")?;
+    report.expect(count == Ok(PIECE), "read_at: fails after an error");
     let wanted = content(rt.alloc(), LENGTH)?;
     report.expect(
         wanted.starts_with(&bytes),
         "read_at: other bytes after an error",
-    )
+    );
+    Ok(())
 }
 
 fn store_of(trial: &Trial) -> io::Result<FolderStore<Trial>> {

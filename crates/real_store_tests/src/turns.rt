@@ -32,12 +32,12 @@ fn try_round(alloc: Global, trial: &Trial, seed: u64, report: &mut Report<'_>) -
         report.expect(
             real.begun() == model.begun(),
             "another number of opened files",
-        )?;
+        );
         let lines = u64::from(!opened);
         report.expect(
             trial.plan().take_lines() == lines,
             "not one line for each error",
-        )?;
+        );
     }
     Ok(())
 }
@@ -67,7 +67,7 @@ fn turn<A: Store, B: Store>(
     let key = key_of(random);
     let opened = real.begin(key);
     let expected = model.begin(key);
-    report.expect(opened == expected, "begin: another result")?;
+    report.expect(opened == expected, "begin: another result");
     if opened.is_ok() && expected.is_ok() {
         read(alloc, real, model, random, report)?;
         read(alloc, real, model, random, report)?;
@@ -107,9 +107,10 @@ fn read<A: Store, B: Store>(
     let mut wanted = vec![in alloc; 0xAAu8; length]?;
     let count = real.read_at(at, &mut bytes);
     let expected = model.read_at(at, &mut wanted);
-    report.expect(count == expected, "read_at: another result")?;
+    report.expect(count == expected, "read_at: another result");
     report.expect(
         bytes.as_slice() == wanted.as_slice(),
         "read_at: other bytes",
-    )
+    );
+    Ok(())
 }

@@ -65,9 +65,10 @@ fn try_length(
     let mut model = MemSource::new(bytes, Vec::new(alloc));
     let found = read_all(alloc, &mut real, limit);
     let expected = read_all(alloc, &mut model, limit);
-    report.expect(is_same(&found, &expected), "read_all: another result")?;
-    compare_rest(alloc, &mut real, &mut model, report)?;
-    report.expect(trial.plan().take_lines() == 0, "a line without an error")
+    report.expect(is_same(&found, &expected), "read_all: another result");
+    compare_rest(alloc, &mut real, &mut model, report);
+    report.expect(trial.plan().take_lines() == 0, "a line without an error");
+    Ok(())
 }
 
 // What is left of both inputs is the same.
@@ -76,10 +77,10 @@ fn compare_rest<A: Source, B: Source>(
     real: &mut A,
     model: &mut B,
     report: &mut Report<'_>,
-) -> io::Result<()> {
+) {
     let found = read_all(alloc, real, 1 << 20);
     let expected = read_all(alloc, model, 1 << 20);
-    report.expect(is_same(&found, &expected), "read_all: another rest")
+    report.expect(is_same(&found, &expected), "read_all: another rest");
 }
 
 fn is_same(a: &Result<Vec<u8>, ReadFault>, b: &Result<Vec<u8>, ReadFault>) -> bool {
@@ -105,14 +106,15 @@ fn try_fault(
     let mut real = StdinSource::new(trial.clone()?);
     trial.plan().fail_after(calls);
     let found = read_all(alloc, &mut real, 100);
-    report.expect(trial.plan().end_failing().is_some(), "makes too few calls")?;
-    report.expect(is_input_fault(&found), "hides an error")?;
-    report.expect(trial.plan().take_lines() == 1, "not one line for its error")?;
+    report.expect(trial.plan().end_failing().is_some(), "makes too few calls");
+    report.expect(is_input_fault(&found), "hides an error");
+    report.expect(trial.plan().take_lines() == 1, "not one line for its error");
     let rest = read_all(alloc, &mut real, 100);
     report.expect(
         is_rest(&rest, &bytes, calls as usize),
         "another rest after an error",
-    )
+    );
+    Ok(())
 }
 
 fn is_input_fault(found: &Result<Vec<u8>, ReadFault>) -> bool {
@@ -122,7 +124,7 @@ fn is_input_fault(found: &Result<Vec<u8>, ReadFault>) -> bool {
     }
 }
 
-// Whether these are the bytes after the first ones, of which there were so many.
+// Whether these are the bytes from this offset on.
 fn is_rest(found: &Result<Vec<u8>, ReadFault>, bytes: &[u8], first: usize) -> bool {
     match found {
         Ok(found) => found.as_slice() == &bytes[first.min(bytes.len())..],
@@ -137,8 +139,8 @@ fn try_scripts(rt: &HostRuntime, trial: &Trial, report: &mut Report<'_>) -> io::
         fs::write(rt, INPUT, *script)?;
         let mut real = StdinSource::new(trial.clone()?);
         let found = read_all(rt.alloc(), &mut real, 100);
-        report.expect(found.is_ok(), "read_all: fails")?;
-        report.expect(real.ends_in_edits() == *is_edit, "another end of a script")?;
+        report.expect(found.is_ok(), "read_all: fails");
+        report.expect(real.ends_in_edits() == *is_edit, "another end of a script");
     }
     report.end(ENDS)
 }

@@ -76,14 +76,15 @@ fn try_round(
     let mut model = MemSink::new(alloc, Vec::new(alloc));
     for _text in 0..TEXTS {
         let text = text_of(alloc, &mut random)?;
-        write(&mut real, &mut model, &text, report)?;
+        write(&mut real, &mut model, &text, report);
     }
     let expected = as_shown(alloc, trial, model.written())?;
     report.expect(
         written(rt)?.as_slice() == expected.as_slice(),
         "other bytes",
-    )?;
-    report.expect(trial.plan().take_lines() == 0, "a line without an error")
+    );
+    report.expect(trial.plan().take_lines() == 0, "a line without an error");
+    Ok(())
 }
 
 // Pieces of texts: ASCII, a line feed and a tab, controls, and characters of several bytes, some of which can't be seen.
@@ -113,14 +114,9 @@ fn text_of(alloc: Global, random: &mut Random) -> io::Result<Vec<u8>> {
 }
 
 // Writes the whole text to both sinks.
-fn write<A: Sink, B: Sink>(
-    real: &mut A,
-    model: &mut B,
-    text: &[u8],
-    report: &mut Report<'_>,
-) -> io::Result<()> {
+fn write<A: Sink, B: Sink>(real: &mut A, model: &mut B, text: &[u8], report: &mut Report<'_>) {
     let put = put_all(real, text);
-    report.expect(put == put_all(model, text), "put_all: another result")
+    report.expect(put == put_all(model, text), "put_all: another result");
 }
 
 const TEXT: &[u8] = b"a text of some length\n";
@@ -147,14 +143,15 @@ fn try_fault(
     let mut real = StdoutSink::new(trial.clone()?);
     trial.plan().fail_after(calls as u64);
     let put = put_all(&mut real, TEXT);
-    report.expect(trial.plan().end_failing().is_some(), "makes too few calls")?;
-    report.expect(put.is_err(), "hides an error")?;
-    report.expect(trial.plan().take_lines() == 1, "not one line for its error")?;
+    report.expect(trial.plan().end_failing().is_some(), "makes too few calls");
+    report.expect(put.is_err(), "hides an error");
+    report.expect(trial.plan().take_lines() == 1, "not one line for its error");
     let before = &TEXT[..calls.min(TEXT.len())];
     report.expect(
         written(rt)?.as_slice() == before,
         "other bytes before an error",
-    )?;
-    report.expect(put_all(&mut real, TEXT).is_ok(), "fails after an error")?;
-    report.expect(written(rt)?.ends_with(TEXT), "other bytes after an error")
+    );
+    report.expect(put_all(&mut real, TEXT).is_ok(), "fails after an error");
+    report.expect(written(rt)?.ends_with(TEXT), "other bytes after an error");
+    Ok(())
 }

@@ -77,8 +77,8 @@ pub record AskedStates : Type 0 where
   pub disk : DiskState
   pub sink : SinkState
 
-abbrev pub asked_states : FolderState → StoreState → DiskState → SinkState → AskedStates
-asked_states folder store disk sink = record { folder = folder; store = store; disk = disk; sink = sink }
+abbrev pub states_of : FolderState → StoreState → DiskState → SinkState → AskedStates
+states_of folder store disk sink = record { folder = folder; store = store; disk = disk; sink = sink }
 
 abbrev pub with_source : SourceState → AskedStates → DeviceStates
 with_source source s = states s.store s.disk source s.sink

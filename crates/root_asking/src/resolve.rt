@@ -1,7 +1,7 @@
 //! The command `resolve` of a directory.
 ghost use Rattle.std.specs.Prelude.{◌≡◌};
 ghost use Rattle.asking_runs.specs.Listings.{listed_text};
-ghost use Rattle.root_asking.specs.Resolve.{AnswersRoot, ResolvesWithoutInput, asked_states, root_answer};
+ghost use Rattle.root_asking.specs.Resolve.{AnswersRoot, ResolvesWithoutInput, states_of, root_answer};
 
 use crate::fault::{ReadFault, RootListFault};
 use crate::reading::read_root;
@@ -43,8 +43,8 @@ pub fn resolve_root<F: Folder, S: Store, D: Disk, O: Sink>(
     disk: &mut D,
     sink: &mut O,
 ) -> Status
-    ensures resolves { ResolvesWithoutInput asked (asked_states (F.state folder.old) (S.state store.old) (D.state disk.old) (O.state sink.old))
-        (asked_states (F.state folder.new) (S.state store.new) (D.state disk.new) (O.state sink.new)) result }
+    ensures resolves { ResolvesWithoutInput asked (states_of (F.state folder.old) (S.state store.old) (D.state disk.old) (O.state sink.old))
+        (states_of (F.state folder.new) (S.state store.new) (D.state disk.new) (O.state sink.new)) result }
     ensures no_usage { result ≡ Status.Usage → ⊥ }
 {
     let read = read_root(alloc, folder, disk);

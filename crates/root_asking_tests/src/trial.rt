@@ -10,7 +10,7 @@ use root_asking::resolve_root;
 use root_folder::MemFolder;
 use rpath_search::Env;
 use std::alloc::Global;
-use table_rows::{Differences, Row, Trial, Words, calls, count, lines_in, value, values};
+use table_rows::{Differences, Row, Trial, Words, calls, count, has_line, lines_in, value, values};
 use tree_face::{MemDisk, MemSink};
 
 /// A row has the tree of a directory as a manifest, the store's files, the cache, the loader's environment, the paths of the programs,
@@ -18,8 +18,11 @@ use tree_face::{MemDisk, MemSink};
 /// disk.
 pub(crate) struct Listed;
 
-// The form that the row asks for: a list whose paths end with NUL or a newline, or listings.
+// The form that the row asks for: JSON, a list whose paths end with NUL or a newline, or listings.
 fn form_of(row: Row<'_>) -> Form {
+    if has_line(row, b"json") {
+        return Form::Json;
+    }
     match value(row, b"list") {
         Some(b"NUL") => Form::Files { end: 0 },
         Some(_) => Form::Files { end: b'\n' },
@@ -110,6 +113,7 @@ const WORDS: &[Words] = &[
         b"out-fails",
         b"main-program",
         b"list",
+        b"json",
         b"status",
         b"output",
         b"keys",

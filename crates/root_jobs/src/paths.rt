@@ -1,6 +1,10 @@
 //! Paths of this machine.
-use device_rules::divided;
+use command_status::Status;
+use device_rules::{SlotPaths, divided};
+use diagnostics::StartFault;
+use standard_streams::{Streams, printable, write_text};
 use std::alloc::AllocError;
+use std::io;
 use std::rt::Runtime;
 
 /// The path with symbolic links resolved. If the file doesn't exist, this is its resolved directory and its name. The result is None if
@@ -33,4 +37,29 @@ pub fn directory_of<'a>(path: &str, directory: &'a str) -> &'a str {
     } else {
         "."
     }
+}
+
+/// The paths of an image's files. The cache has this path if one is given. The result is None if the path can't name a file.
+pub fn paths_of<R: Runtime + AllocGlobal>(
+    rt: &R,
+    cache: Option<&str>,
+) -> Result<Option<SlotPaths>, StartFault> {
+    match cache {
+        Some(path) => Ok(SlotPaths::with_cache(rt.alloc(), path)?),
+        None => Ok(Some(SlotPaths::usual())),
+    }
+}
+
+/// Says that a path can't name a cache file, and returns the exit status.
+pub fn no_cache_path<R: Runtime + Streams>(rt: &R, path: &str) -> Result<u8, StartFault> {
+    let _ = note_cache_path(rt, path);
+    Ok(Status::Usage.code())
+}
+
+fn note_cache_path<R: Runtime + Streams>(rt: &R, path: &str) -> io::Result<()> {
+    let shown = printable(rt, path)?;
+    let line = format!(in rt.alloc();
+        "ldconfig: -C {shown}: use the path of a file, without ..\n"
+    )?;
+    write_text(rt, line.as_str())
 }

@@ -193,7 +193,7 @@ pub fn note_fault<R: Runtime + Streams>(rt: &R, root: &str, status: Status) -> i
     let root = printable(rt, root)?;
     let line = match status {
         Status::TooMany { count } => format!(in alloc;
-            "ldconfig: {root}: it has {count} libraries, and a cache at most {most_entries}\n"
+            "ldconfig: {root}: its cache would have {count} entries, and may have {most_entries}\n"
         )?,
         Status::TooLarge { .. } => format!(in alloc;
             "ldconfig: {root}: it has more than {most_nodes} paths\n"

@@ -4,4 +4,5 @@ mod Known
 mod Listing
 mod Names
 mod Parts
+pub mod Readings
 mod Sees

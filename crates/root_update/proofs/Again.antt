@@ -18,7 +18,7 @@ use Rattle.ldconfig_core.proofs.OutcomeRows.{writes_held}
 use Rattle.ldconfig_core.specs.Outcome.{Writes, update_outcome}
 use Rattle.ldconfig_core.specs.Settled.{AreCachesAgain, AreSettled, planned_image, unstamped_image}
 use Rattle.ldconfig_core.specs.Texts.{AreTextsOf, UpdateTexts}
-use Rattle.library_search.proofs.Honest.{after_in_order, none_true, info_is, info_law, stamps_are, wanted_in_order, wanted_is}
+use Rattle.library_search.proofs.Reliable.{after_in_order, none_true, info_is, info_law, stamps_are, wanted_in_order, wanted_is}
 use Rattle.library_search.specs.Begun.{after_keys, ids_wanted, opened_in, wanted_keys}
 use Rattle.library_search.specs.Judged.{AreJudged}
 use Rattle.library_search.specs.Ldconfig.{after_in, library_paths, stamps_in, wanted_in}

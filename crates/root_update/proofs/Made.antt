@@ -9,7 +9,7 @@ use Rattle.ldconfig_core.specs.Outcome.{Writes, update_outcome}
 use Rattle.ldconfig_core.specs.Settled.{AreSettled, planned_image}
 use Rattle.ldconfig_core.specs.Stages.{stored_image, texts_of}
 use Rattle.ldconfig_core.specs.Texts.{AreTextsOf, UpdateTexts}
-use Rattle.ldconfig_core.specs.Update.{AreUpdateTexts, IfHonestly, IsAnswer, IsUpdated, ReadsUpdate}
+use Rattle.ldconfig_core.specs.Update.{AreUpdateTexts, IfReliably, IsAnswer, IsUpdated, ReadsUpdate}
 use Rattle.ldconfig_core.specs.declared.fault.UpdateFault.TheVariants as updating
 use Rattle.ldconfig_core.specs.declared.preparing.Prepared.{Prepared}
 use Rattle.library_search.specs.Ldconfig.{links_in, stamps_in}
@@ -27,8 +27,8 @@ use Rattle.tree_face.specs.StoreUse.{Complete}
 -- the facts of a second update
 settles : (scope : Scope) (image : Loaded) (texts : UpdateTexts) (known : Option Contents) → IfKnown known (λ held. AreTextsOf scope held image texts)
     → IfKnown known (λ held. stamps_of_slot (Some texts.aux) ≡ stamps_in scope held image.tree image.stamps)
-    → IfHonestly known image (λ held. AreSettled scope held image (planned_image scope held image)) → IfKnown known (λ held. update_outcome scope held image ≡ Writes)
-    → IfHonestly known image (λ held. IsRootSettled scope held image texts)
+    → IfReliably known image (λ held. AreSettled scope held image (planned_image scope held image)) → IfKnown known (λ held. update_outcome scope held image ≡ Writes)
+    → IfReliably known image (λ held. IsRootSettled scope held image texts)
 settles scope image texts None are read settled writes = tt
 settles scope image texts (Some held) are read settled writes = λ truth same. is_settled scope held image texts are (settled truth same) read writes
 

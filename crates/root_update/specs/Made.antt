@@ -14,7 +14,7 @@ use Rattle.ldconfig_core.specs.Outcome.{Writes, update_outcome}
 use Rattle.ldconfig_core.specs.Settled.{AreCachesAgain, unstamped_image}
 use Rattle.ldconfig_core.specs.Stages.{texts_of}
 use Rattle.ldconfig_core.specs.Texts.{AreAlike, AreTextsOf, UpdateTexts}
-use Rattle.ldconfig_core.specs.Update.{AreUpdateTexts, IfHonestly, IsAnswer, IsReportFor, ReadsUpdate, update_ending}
+use Rattle.ldconfig_core.specs.Update.{AreUpdateTexts, IfReliably, IsAnswer, IsReportFor, ReadsUpdate, update_ending}
 use Rattle.ldconfig_core.specs.declared.fault.UpdateFault.{UpdateFault}
 use Rattle.ldconfig_core.specs.declared.preparing.Prepared.{Prepared}
 use Rattle.ldconfig_core.specs.declared.report.Report.{Report}
@@ -100,8 +100,8 @@ pub record AreRootTexts (scope : Scope) (known : Option Contents) (image : Loade
   -- with the same auxiliary cache
   pub as_image : IfKnown known (λ held. HasCacheOfImage scope held image image texts)
   -- if the stamps are true, and files of equal identity have equal content
-  pub rebuilt : IfHonestly known image (λ held. IsRootRebuilt scope held image texts)
-  pub settles : IfHonestly known image (λ held. IsRootSettled scope held image texts)
+  pub rebuilt : IfReliably known image (λ held. IsRootRebuilt scope held image texts)
+  pub settles : IfReliably known image (λ held. IsRootSettled scope held image texts)
 
 -- The image of the directory is read, and everything that is written later is made.
 pub record MakesRoot (scope : Scope) (how : AuxUse) (image : Loaded) (plan : List Planned) (texts : UpdateTexts) (old new : RootStates) : Type 0 where

@@ -13,20 +13,9 @@ use crate::language::options;
 use crate::rejection::{Rejected, rejection_by};
 use clap::error::ErrorKind;
 use clap::{ArgMatches, Error};
-use lib_types::{NoMemory, Text, Texts, before_byte};
+use command_words::refusal_line;
+use lib_types::{NoMemory, Text, Texts};
 use std::alloc::Global;
-
-// The first line of the text of an error, without the word `error`.
-fn line_of(alloc: Global, error: &Error) -> Result<Text, NoMemory> {
-    let text = format!(in alloc; "{error}")?;
-    let line = before_byte(b'\n', text.as_bytes());
-    let front = b"error: ";
-    if line.starts_with(front) {
-        Text::copy_of(alloc, &line[front.len()..])
-    } else {
-        Text::copy_of(alloc, line)
-    }
-}
 
 // An error of `clap` as a fault.
 fn refusal(alloc: Global, error: &Error) -> RootWordsFault
@@ -34,7 +23,7 @@ fn refusal(alloc: Global, error: &Error) -> RootWordsFault
 {
     match error.kind() {
         ErrorKind::OutOfMemory => RootWordsFault::NoMemory,
-        _ => match line_of(alloc, error) {
+        _ => match refusal_line(alloc, error) {
             Ok(line) => RootWordsFault::Refused(line),
             Err(NoMemory) => RootWordsFault::NoMemory,
         },

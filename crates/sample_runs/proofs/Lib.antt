@@ -1,7 +1,7 @@
 mod Drawn
 mod Edited
 mod Ended
-mod Honest
+mod Reliable
 mod Putting
 mod Ran
 mod Twice

@@ -15,7 +15,7 @@ use Rattle.tree_face.specs.Follows.{IsFollowedBy, IsFollowedByPart}
 use Rattle.tree_face.specs.Known.{IfKnown, Relates}
 use Rattle.tree_face.specs.Store.{Contents, StoreState}
 use Rattle.sample_runs.proofs.Edited.{first_edited, replaced_edited, writes_all}
-use Rattle.sample_runs.proofs.Honest.{first_right, second_right}
+use Rattle.sample_runs.proofs.Reliable.{first_right, second_right}
 use Rattle.sample_runs.proofs.Updating.{Leaves, all_begun, none_follow, risen_since}
 use Rattle.sample_runs.specs.declared.fault.SampleFault.{SampleFault}
 use Rattle.sample_runs.specs.declared.fault.SampleFault.TheVariants.{DiskFault, NoMemory, StoreFault}

@@ -58,7 +58,7 @@ complete_by status other is (inr out) = inr (is ∙ out)
 
 module _ (held : Contents) (lines : List (List ℕ)) (s : Loaded) (status : Status) (content : DiskContent) (old new : States) (none : NoneRose old new)
     (session : Loaded) (done : (course held 1 lines s).end ≡ Ok session) where
-  by_left : IsUnloaded status content old new ⊎ IsRebuilt held lines s status content old new → IsComplete status
+  pub by_left : IsUnloaded status content old new ⊎ IsRebuilt held lines s status content old new → IsComplete status
   by_left (inl left) = complete_by status (of_load left.fault) left.status_is (unloaded old new none left.fault left.why)
   by_left (inr (to, (is, rebuilt))) =
       complete_by status (status_of to) is (by_end old new none (course held 1 lines s) rebuilt.left.rest session done to rebuilt.left.ends)

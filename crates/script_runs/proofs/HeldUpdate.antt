@@ -33,8 +33,8 @@ use Rattle.script_runs.specs.declared.fault.LineFault.{LineFault}
 use Rattle.script_runs.specs.declared.fault.ScriptFault.{ScriptFault}
 use Rattle.script_runs.proofs.AskedFor.{are_asked}
 use Rattle.script_runs.proofs.EditedImage.{IsEdit, edit_is}
-use Rattle.script_runs.proofs.HonestCourse.{each_honest}
-use Rattle.script_runs.specs.Course.{AreHonest, Course, IsHonest, course, course_by, course_of_update, goes_on}
+use Rattle.script_runs.proofs.ReliableCourse.{each_reliable}
+use Rattle.script_runs.specs.Course.{AreReliable, Course, IsReliable, course, course_by, course_of_update, goes_on}
 use Rattle.script_runs.specs.Left.{AreMade, HasItsTree, HoldUpdateOf, IsUpdateOf, LeavesRebuilt, OfLast, RebuildsScript}
 use Rattle.script_runs.specs.Run.{after_line}
 
@@ -58,7 +58,7 @@ ended held (u ∷ us) before after reports none made = absurd (cc)
 -- ---- the update of the files that are left
 
 module _ (held : Contents) where
-  held_by : (u : Loaded) (texts : UpdateTexts) (before : Slots) → IsHonest held u → IsUpdateOf held u texts → HoldUpdateOf held (planned_image Image held u) (slots_after (writes_of texts) before)
+  held_by : (u : Loaded) (texts : UpdateTexts) (before : Slots) → IsReliable held u → IsUpdateOf held u texts → HoldUpdateOf held (planned_image Image held u) (slots_after (writes_of texts) before)
   held_by u texts before here is =
       let settled = is.settled here in
       let more = again Image held u (planned_image Image held u) texts settled is.are in
@@ -78,12 +78,12 @@ module _ (held : Contents) where
             (searched_too Image held u.tree u.stamps (planned_image Image held u).tree (planned_image Image held u).stamps texts.cache settled.entries is.finds);
       }
 
-  held_last : (us : List Loaded) (before after : Slots) (reports : List (List ℕ)) → All (IsHonest held) us → AreMade held us before after reports → OfLast us (λ u. HoldUpdateOf held (planned_image Image held u) after)
-  held_last [] before after reports honest made = none_last (λ u. HoldUpdateOf held (planned_image Image held u) after)
-  held_last (u ∷ us) before after reports honest (texts, (is, (rest, (parts, made)))) =
+  held_last : (us : List Loaded) (before after : Slots) (reports : List (List ℕ)) → All (IsReliable held) us → AreMade held us before after reports → OfLast us (λ u. HoldUpdateOf held (planned_image Image held u) after)
+  held_last [] before after reports reliable made = none_last (λ u. HoldUpdateOf held (planned_image Image held u) after)
+  held_last (u ∷ us) before after reports reliable (texts, (is, (rest, (parts, made)))) =
       last_by u us (λ u. HoldUpdateOf held (planned_image Image held u) after)
-      (λ none. subst (λ (slots : Slots). HoldUpdateOf held (planned_image Image held u) slots) (sym (ended held us (slots_after (writes_of texts) before) after rest none made)) (held_by u texts before (All-head (IsHonest held) u us honest) is))
-      (held_last us (slots_after (writes_of texts) before) after rest (All-tail (IsHonest held) u us honest) made)
+      (λ none. subst (λ (slots : Slots). HoldUpdateOf held (planned_image Image held u) slots) (sym (ended held us (slots_after (writes_of texts) before) after rest none made)) (held_by u texts before (All-head (IsReliable held) u us reliable) is))
+      (held_last us (slots_after (writes_of texts) before) after rest (All-tail (IsReliable held) u us reliable) made)
 
 -- ---- the manifest
 
@@ -176,21 +176,21 @@ pub rebuilds_by : (held : Contents) (lines : List (List ℕ)) (number : ℕ) (s 
     → LeavesRebuilt held (course held number lines s) to content old new → RebuildsScript held number lines s to content old new
 rebuilds_by held lines number s to content old new left = record {
   left = left;
-  honest = made_honest;
-  settled = λ honest. held_last held left.made content.now left.slots left.reports (made_honest honest) left.are_made;
+  reliable = made_reliable;
+  settled = λ reliable. held_last held left.made content.now left.slots left.reports (made_reliable reliable) left.are_made;
   stored = stored_last held s left.made content.now left.slots left.reports left.are_made
       (front_chained held s left.made left.rest (subst (λ (us : List Loaded). AreChained held s us) left.parts (are_chained held lines number s)));
 }
   where
-    front : (xs ys : List Loaded) → All (IsHonest held) (xs ++ ys) → All (IsHonest held) xs
-    front [] ys all = All-nil (IsHonest held)
-    front (x ∷ xs) ys all = All-cons (IsHonest held) x xs (All-head (IsHonest held) x (xs ++ ys) all) (front xs ys (All-tail (IsHonest held) x (xs ++ ys) all))
+    front : (xs ys : List Loaded) → All (IsReliable held) (xs ++ ys) → All (IsReliable held) xs
+    front [] ys all = All-nil (IsReliable held)
+    front (x ∷ xs) ys all = All-cons (IsReliable held) x xs (All-head (IsReliable held) x (xs ++ ys) all) (front xs ys (All-tail (IsReliable held) x (xs ++ ys) all))
 
     -- the sessions that were updated are among those whose updates are asked for
-    made_honest : AreHonest held s.stamps (course held number lines s).asked → All (IsHonest held) left.made
-    made_honest honest =
+    made_reliable : AreReliable held s.stamps (course held number lines s).asked → All (IsReliable held) left.made
+    made_reliable reliable =
         let c = course held number lines s in
-        let each = each_honest held lines number s honest in
-        let updates : All (IsHonest held) c.updates =
-        All-weaker (Contains c.asked) (IsHonest held) (λ u there. All-contains (IsHonest held) c.asked u each there) c.updates (are_asked held lines number s) in
-        front left.made left.rest (subst (λ (us : List Loaded). All (IsHonest held) us) left.parts updates)
+        let each = each_reliable held lines number s reliable in
+        let updates : All (IsReliable held) c.updates =
+        All-weaker (Contains c.asked) (IsReliable held) (λ u there. All-contains (IsReliable held) c.asked u each there) c.updates (are_asked held lines number s) in
+        front left.made left.rest (subst (λ (us : List Loaded). All (IsReliable held) us) left.parts updates)

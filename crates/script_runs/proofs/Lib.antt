@@ -1,14 +1,14 @@
 mod AskedFor
-mod Completed
-mod Crashed
+pub mod Completed
+pub mod Crashed
 mod EditedImage
-mod HeldUpdate
-mod HonestCourse
+pub mod HeldUpdate
+pub mod ReliableCourse
 mod InSlots
-mod LoadedScript
-mod NotUsage
-mod OneUpdate
+pub mod LoadedScript
+pub mod NotUsage
+pub mod OneUpdate
 mod PartWritten
-mod Rebuilt
-mod RepairedScript
+pub mod Rebuilt
+pub mod RepairedScript
 mod UpdateOf

@@ -36,7 +36,7 @@ module _ (content : DiskContent) (old : States) (between : DiskState) (known : o
   abbrev read : States
   read = record old { disk = between }
 
-  slots_stay : KeepsAll old.disk between → IfKnown between.contents (λ left. left.now ≡ content.now)
+  pub slots_stay : KeepsAll old.disk between → IfKnown between.contents (λ left. left.now ≡ content.now)
   slots_stay keeps = subst (λ (c : Option DiskContent). IfKnown c (λ left. left.now ≡ content.now)) (sym (keeps.contents ∙ known)) refl
 
   answer : (loaded : Result Loaded LoadFault) → Loads loaded old.disk between → IsLoad (manifest_of content.now.manifest) loaded
@@ -57,7 +57,7 @@ module _ (content : DiskContent) (old : States) (between : DiskState) (known : o
 module _ (tag : Tag) (lines : List (List ℕ)) (status : Status) (held : Contents) (content : DiskContent) (old new : States) (between : DiskState)
     (is : old.store.held ≡ Some held) (known : old.disk.contents ≡ Some content) where
   -- what is left after the loading is also left after the start
-  left_since : (whole : Course) (to : Result Loaded ScriptFault) → old.disk.faults ≤ between.faults → LeavesRebuilt held whole to content (record old { disk = between }) new
+  pub left_since : (whole : Course) (to : Result Loaded ScriptFault) → old.disk.faults ≤ between.faults → LeavesRebuilt held whole to content (record old { disk = between }) new
       → LeavesRebuilt held whole to content old new
   left_since whole to faults left = record {
     made = left.made;
@@ -101,7 +101,7 @@ loads_rebuilt tag lines status old new run = by old.store.held refl old.disk.con
 
 module _ (tag : Tag) (old read : DiskState) (keeps : KeepsAll old read) where
   -- if a disk had moments before its files were read, it has them afterwards
-  moments_kept : HasMoments old → HasMoments read
+  pub moments_kept : HasMoments old → HasMoments read
   moments_kept laws = record {
     held = subst (λ (c : Option DiskContent). IfKnown c (λ c. (slot : Slot) → read.may slot (slot_of c.now slot) ≡ true)) (sym keeps.contents)
         (subst (λ (may : Slot → Content → Bool). IfKnown old.contents (λ c. (slot : Slot) → may slot (slot_of c.now slot) ≡ true)) (sym keeps.may) laws.held);
@@ -111,7 +111,7 @@ module _ (tag : Tag) (old read : DiskState) (keeps : KeepsAll old read) where
         ∙ laws.earlier t u slot b before (omega (arith, within, keeps.time)) (ap (λ since. since u slot b) (sym keeps.since) ∙ h);
   }
 
-  whole_since : (known : Option Contents) (number : ℕ) (lines : List (List ℕ)) (s : Loaded) (to : Result Loaded ScriptFault) (new : DiskState) → LeavesWholeCaches tag known number lines s to read new
+  pub whole_since : (known : Option Contents) (number : ℕ) (lines : List (List ℕ)) (s : Loaded) (to : Result Loaded ScriptFault) (new : DiskState) → LeavesWholeCaches tag known number lines s to read new
       → LeavesWholeCaches tag known number lines s to old new
   whole_since known number lines s to new left = record {
     updates = left.updates;
@@ -125,7 +125,7 @@ module _ (tag : Tag) (old read : DiskState) (keeps : KeepsAll old read) where
     calls = subst (λ (calls : Option (List DoneCall)). Relates (MakesCalls tag left.updates to) calls new.calls) keeps.calls left.calls;
   }
 
-  kept : HasMoments old → (slot : Slot) (b : Content) → read.since old.time slot b ≡ true → old.may slot b ≡ true
+  pub kept : HasMoments old → (slot : Slot) (b : Content) → read.since old.time slot b ≡ true → old.may slot b ≡ true
   kept laws slot b h = sym (laws.now slot b) ∙ ap (λ since. since old.time slot b) (sym keeps.since) ∙ h
 
 pub loads_whole : (tag : Tag) (lines : List (List ℕ)) (status : Status) (old new : States) → HasMoments old.disk → RunsStored tag lines status old new

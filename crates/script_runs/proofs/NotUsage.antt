@@ -45,7 +45,7 @@ read_else (reading.TooLong taken) e = absurd (cc)
 read_else reading.InputFault e = absurd (cc)
 read_else reading.NoMemory e = absurd (cc)
 
-after_else : (tag : Tag) (lines : List (List ℕ)) (loaded : Result Loaded LoadFault) (status : Status) (old new : States) → AfterLoad tag lines loaded status old new → status ≡ Usage → ⊥
+pub after_else : (tag : Tag) (lines : List (List ℕ)) (loaded : Result Loaded LoadFault) (status : Status) (old new : States) → AfterLoad tag lines loaded status old new → status ≡ Usage → ⊥
 after_else tag lines (Ok s) status old new (to, (is, runs)) e = script_else to (sym is ∙ e)
 after_else tag lines (Err fault) status old new (is, same) e = load_else fault (sym is ∙ e)
 

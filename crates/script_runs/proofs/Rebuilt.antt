@@ -36,7 +36,7 @@ use Rattle.script_runs.specs.declared.fault.LineFault.{LineFault}
 use Rattle.script_runs.specs.declared.fault.ScriptFault.{ScriptFault}
 use Rattle.script_runs.specs.declared.fault.ScriptFault.TheVariants.{Line, NoMemory, Updating}
 use Rattle.script_runs.proofs.EditedImage.{IsEdit, edit_is}
-use Rattle.script_runs.proofs.HonestCourse.{knowing}
+use Rattle.script_runs.proofs.ReliableCourse.{knowing}
 use Rattle.script_runs.proofs.PartWritten.{part_written}
 use Rattle.script_runs.proofs.UpdateOf.{texts_are}
 use Rattle.script_runs.specs.Course.{Course, course, course_by, course_of_update, ends, goes_on, refused}

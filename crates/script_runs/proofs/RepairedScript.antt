@@ -31,8 +31,8 @@ use Rattle.tree_face.specs.Devices.{IfBothKnown}
 use Rattle.script_runs.specs.declared.fault.ScriptFault.{ScriptFault}
 use Rattle.script_runs.proofs.InSlots.{image_is}
 use Rattle.script_runs.proofs.AskedFor.{AreAsked, are_asked, contains_first, contains_later}
-use Rattle.script_runs.proofs.HonestCourse.{each_honest, first_is, later_is, made_true}
-use Rattle.script_runs.specs.Course.{AreHonest, Course, IsHonest, course, trees_of}
+use Rattle.script_runs.proofs.ReliableCourse.{each_reliable, first_is, later_is, made_true}
+use Rattle.script_runs.specs.Course.{AreReliable, Course, IsReliable, course, trees_of}
 use Rattle.script_runs.specs.Crash.{AreOfFirst, IsOfOld, IsOfUpdate, LeavesWholeCaches, MayBeLeft}
 use Rattle.script_runs.specs.Left.{IsUpdateOf}
 use Rattle.script_runs.specs.Stored.{IsRepairable, LeavesBy, LeavesWhole, RepairsScript}
@@ -53,14 +53,14 @@ either_writes (x ∷ xs) ys slot b (inr is) = elim (either_writes xs ys slot b i
 
 module _ (held : Contents) (slot : Slot) (b : Content) where
   -- it is the result of an update of one of these images
-  record IsWrittenOf (images : List Loaded) : Type 0 where
-    image : Loaded
-    among : Contains images image
-    texts : UpdateTexts
-    are : IsUpdateOf held image texts
-    there : IsOfWrites (writes_of texts) slot b
+  pub record IsWrittenOf (images : List Loaded) : Type 0 where
+    pub image : Loaded
+    pub among : Contains images image
+    pub texts : UpdateTexts
+    pub are : IsUpdateOf held image texts
+    pub there : IsOfWrites (writes_of texts) slot b
 
-  written_of : (to : Result Loaded ScriptFault) (images : List Loaded) (updates : List UpdateTexts) → AreOfFirst held to images updates → IsOfWrites (flat_map writes_of updates) slot b
+  pub written_of : (to : Result Loaded ScriptFault) (images : List Loaded) (updates : List UpdateTexts) → AreOfFirst held to images updates → IsOfWrites (flat_map writes_of updates) slot b
       → IsWrittenOf images
   written_of to images [] are there = absurd there
   written_of to [] (texts ∷ updates) are there = absurd are
@@ -73,22 +73,22 @@ module _ (held : Contents) (slot : Slot) (b : Content) where
 
 -- ---- a session that may be left
 
-module _ (held : Contents) (s : Loaded) (c : Course) (within : AreAsked c) (honest : AreHonest held s.stamps (s ∷ c.asked)) (each : All (IsHonest held) c.asked) where
+module _ (held : Contents) (s : Loaded) (c : Course) (within : AreAsked c) (reliable : AreReliable held s.stamps (s ∷ c.asked)) (each : All (IsReliable held) c.asked) where
   abbrev asked : List Loaded
   asked = s ∷ c.asked
 
   among_asked : (u : Loaded) → Contains c.updates u → Contains asked u
   among_asked u there = contains_later s c.asked u (All-contains (Contains c.asked) c.updates u within there)
 
-  abbrev first : IsHonest held s
-  first = first_is held s c.asked honest
+  abbrev first : IsReliable held s
+  first = first_is held s c.asked reliable
 
   -- the stamps of an update are true of each session whose update is asked for
   all_made_true : (u : Loaded) → Contains asked u → All (λ (v : Loaded). AreTrue held v.tree (stamps_in Image held u.tree u.stamps)) asked
   all_made_true u there =
       let same : All (AreSame held u.tree) (trees_of asked) =
-      All-contains (λ (u : Loaded). All (AreSame held u.tree) (trees_of asked)) asked u (each_tree (λ t. All (AreSame held t) (trees_of asked)) asked honest.same) there in
-      let here : IsHonest held u = All-contains (IsHonest held) asked u (All-cons (IsHonest held) s c.asked first each) there in
+      All-contains (λ (u : Loaded). All (AreSame held u.tree) (trees_of asked)) asked u (each_tree (λ t. All (AreSame held t) (trees_of asked)) asked reliable.same) there in
+      let here : IsReliable held u = All-contains (IsReliable held) asked u (All-cons (IsReliable held) s c.asked first each) there in
       All-weaker (λ (v : Loaded). AreSame held u.tree v.tree) (λ (v : Loaded). AreTrue held v.tree (stamps_in Image held u.tree u.stamps))
       (λ v same. made_true held u here v.tree same) asked (each_tree (AreSame held u.tree) asked same)
 
@@ -96,7 +96,7 @@ module _ (held : Contents) (s : Loaded) (c : Course) (within : AreAsked c) (hone
     -- its stamps are true of each session whose update is asked for
     all_true : All (λ (u : Loaded). AreTrue held u.tree left.stamps) asked
     all_true = elim may.stamps [
-      | inl old ↦ subst (λ (x : List Stamp). All (λ (u : Loaded). AreTrue held u.tree x) asked) (sym old) (each_tree (λ t. AreTrue held t s.stamps) asked honest.are_true)
+      | inl old ↦ subst (λ (x : List Stamp). All (λ (u : Loaded). AreTrue held u.tree x) asked) (sym old) (each_tree (λ t. AreTrue held t s.stamps) asked reliable.are_true)
       | inr (u, (among, new)) ↦ subst (λ (x : List Stamp). All (λ (u : Loaded). AreTrue held u.tree x) asked) (sym new) (all_made_true u (among_asked u among))
     ]
 
@@ -137,7 +137,7 @@ module _ (held : Contents) (s : Loaded) (c : Course) (within : AreAsked c) (hone
 
 -- ---- files each of which is old, or written by an update of the expected run
 
-module _ (held : Contents) (slots : Slots) (s : Loaded) (in_slots : IsImageIn slots s) (c : Course) (within : AreAsked c) (honest : AreHonest held s.stamps (s ∷ c.asked)) (every : All (IsHonest held) c.asked)
+module _ (held : Contents) (slots : Slots) (s : Loaded) (in_slots : IsImageIn slots s) (c : Course) (within : AreAsked c) (reliable : AreReliable held s.stamps (s ∷ c.asked)) (every : All (IsReliable held) c.asked)
     (image : Slots) (each : (slot : Slot) → (slot_of image slot ≡ slot_of slots slot) ⊎ IsWrittenOf held slot (slot_of image slot) c.updates) where
   -- the stamps are the old ones, or those of an update
   stamps_are : (stamps_of_slot image.aux ≡ s.stamps) ⊎ ((u : Loaded) × (Contains c.updates u × (stamps_of_slot image.aux ≡ stamps_in Image held u.tree u.stamps)))
@@ -154,15 +154,15 @@ module _ (held : Contents) (slots : Slots) (s : Loaded) (in_slots : IsImageIn sl
         left = left;
         in_slots = record { tree = ap manifest_of old ∙ in_slots.tree; is = refl };
         may = may;
-        are_true = old_true held s c within honest every left may refl;
-        same = old_same held s c within honest every left may refl;
-        writes = inl (old, of_old held s c within honest every left may refl);
+        are_true = old_true held s c within reliable every left may refl;
+        same = old_same held s c within reliable every left may refl;
+        writes = inl (old, of_old held s c within reliable every left may refl);
       }
 
   of_new_manifest : (u : Loaded) → Contains c.updates u → (texts : UpdateTexts) → IsUpdateOf held u texts → IsOfWrites (writes_of texts) Manifest image.manifest → IsRepairable held s c.updates slots image
   of_new_manifest u among texts is there =
       let left : Loaded = image_with (planned_in Image held u.tree u.stamps) image.aux in
-      let settled = is.settled (All-contains (IsHonest held) c.asked u every (All-contains (Contains c.asked) c.updates u within among)) in
+      let settled = is.settled (All-contains (IsReliable held) c.asked u every (All-contains (Contains c.asked) c.updates u within among)) in
       let may : MayBeLeft held s c.updates left = record { tree = inr (u, (among, refl)); stamps = stamps_are; fresh = refl } in
       let text = manifest_written texts image.manifest there in
       record {
@@ -172,9 +172,9 @@ module _ (held : Contents) (slots : Slots) (s : Loaded) (in_slots : IsImageIn sl
           is = refl;
         };
         may = may;
-        are_true = new_true held s c within honest every left may u among is.made settled refl;
-        same = new_same held s c within honest every left may u among is.made settled refl;
-        writes = inr (u, (among, (text.1.1 ∙ sym text.1.0 ∙ is.are.manifest_is, of_update held s c within honest every left may u among is.made settled refl)));
+        are_true = new_true held s c within reliable every left may u among is.made settled refl;
+        same = new_same held s c within reliable every left may u among is.made settled refl;
+        writes = inr (u, (among, (text.1.1 ∙ sym text.1.0 ∙ is.are.manifest_is, of_update held s c within reliable every left may u among is.made settled refl)));
       }
 
   repairable : IsRepairable held s c.updates slots image
@@ -187,19 +187,19 @@ module _ (held : Contents) (slots : Slots) (s : Loaded) (in_slots : IsImageIn sl
 
 module _ (tag : Tag) (held : Contents) (content : DiskContent) (lines : List (List ℕ)) (status : Status) (old new : DiskState) (known : old.contents ≡ Some content) where
   by_loaded : (loaded : Result Loaded LoadFault) → IfOk loaded (IsLoaded old.contents) → LeavesBy tag (Some held) lines loaded status old new → RepairsScript held lines content old new
-  by_loaded (Ok found) in_slots (to, (is_status, left)) only s is honest image might =
+  by_loaded (Ok found) in_slots (to, (is_status, left)) only s is reliable image might =
       let there : IsImageIn content.now found = image_is content found (subst (λ (c : Option DiskContent). IsLoaded c found) known in_slots) in
       let whole : LeavesWholeCaches tag (Some held) 1 lines s to old new =
       subst (λ (s : Loaded). LeavesWholeCaches tag (Some held) 1 lines s to old new) (one_image content.now s found is there) left in
       let c = course held 1 lines s in
-      repairable held content.now s is c (are_asked held lines 1 s) honest (each_honest held lines 1 s (later_is held s c.asked honest)) image
+      repairable held content.now s is c (are_asked held lines 1 s) reliable (each_reliable held lines 1 s (later_is held s c.asked reliable)) image
       (λ slot. elim (whole.whole slot (slot_of image slot) (might slot)) [
         | inl was ↦ inl (only slot (slot_of image slot) was)
         | inr is ↦ inr (written_of held slot (slot_of image slot) to c.updates whole.updates whole.of_course is)
       ])
-  by_loaded (Err fault) in_slots left only s is honest image might =
+  by_loaded (Err fault) in_slots left only s is reliable image might =
       let c = course held 1 lines s in
-      repairable held content.now s is c (are_asked held lines 1 s) honest (each_honest held lines 1 s (later_is held s c.asked honest)) image
+      repairable held content.now s is c (are_asked held lines 1 s) reliable (each_reliable held lines 1 s (later_is held s c.asked reliable)) image
       (λ slot. inl (only slot (slot_of image slot) (left slot (slot_of image slot) (might slot))))
 
 pub repairs_script : (tag : Tag) (lines : List (List ℕ)) (status : Status) (known : Option Contents) (disk : Option DiskContent) (old new : DiskState) → old.contents ≡ disk

@@ -7,14 +7,14 @@ use Rattle.ldconfig_core.specs.Settled.{unstamped_image}
 use Rattle.ldconfig_core.specs.Texts.{AreTextsOf, UpdateTexts}
 use Rattle.ldconfig_core.specs.Update.{AreUpdateTexts}
 use Rattle.image_session.specs.Session.{Loaded}
-use Rattle.library_search.proofs.Honest.{none_true}
+use Rattle.library_search.proofs.Reliable.{none_true}
 use Rattle.tree_face.specs.Known.{IfKnown}
 use Rattle.tree_face.specs.Store.{Contents}
-use Rattle.script_runs.specs.Course.{IsHonest}
+use Rattle.script_runs.specs.Course.{IsReliable}
 use Rattle.script_runs.specs.Left.{IsRebuiltOf, IsUpdateOf}
 
 -- an update without the auxiliary cache has the same texts
-rebuilt_of : (held : Contents) (s : Loaded) (texts : UpdateTexts) → update_outcome Image held s ≡ Writes → AreTextsOf Image held s texts → IsHonest held s → IsRebuiltOf held s texts
+rebuilt_of : (held : Contents) (s : Loaded) (texts : UpdateTexts) → update_outcome Image held s ≡ Writes → AreTextsOf Image held s texts → IsReliable held s → IsRebuiltOf held s texts
 rebuilt_of held s texts writes are here = record {
   made = one_outcome Image held s (unstamped_image s) refl refl here.1 here.0 (none_true held s.tree) ∙ writes;
   same = λ again others. one_written Image held s (unstamped_image s) refl refl here.1 here.0 (none_true held s.tree) texts again are others;

@@ -65,13 +65,13 @@ course held number (line ∷ lines) s = course_by held number (line_of line) s (
 -- ---- the assumption on identities
 
 -- the stamps of the session are true, and its files of equal identity have equal content
-abbrev pub IsHonest : Contents → Loaded → Type 0
-IsHonest held s = AreTrue held s.tree s.stamps × AreSame held s.tree s.tree
+abbrev pub IsReliable : Contents → Loaded → Type 0
+IsReliable held s = AreTrue held s.tree s.stamps × AreSame held s.tree s.tree
 
 abbrev pub trees_of : List Loaded → List Nodes
 trees_of sessions = map (λ (session : Loaded). session.tree) sessions
 
 -- Files of equal identity have equal content, within one of these sessions and between any two, and the stamps are true of each session.
-pub record AreHonest (held : Contents) (stamps : List Stamp) (sessions : List Loaded) : Type 0 where
+pub record AreReliable (held : Contents) (stamps : List Stamp) (sessions : List Loaded) : Type 0 where
   pub same : All (λ t. All (AreSame held t) (trees_of sessions)) (trees_of sessions)
   pub are_true : All (λ t. AreTrue held t stamps) (trees_of sessions)

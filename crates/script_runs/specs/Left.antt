@@ -30,7 +30,7 @@ use Rattle.update_runs.specs.Update.{States}
 use Rattle.update_runs.specs.declared.fault.UpdatingFault.TheVariants.{OutputFault, Update}
 use Rattle.script_runs.specs.declared.fault.ScriptFault.{ScriptFault}
 use Rattle.script_runs.specs.declared.fault.ScriptFault.TheVariants.{Line, NoMemory, Updating}
-use Rattle.script_runs.specs.Course.{AreHonest, Course, IsHonest, course}
+use Rattle.script_runs.specs.Course.{AreReliable, Course, IsReliable, course}
 
 -- ---- one update
 
@@ -52,9 +52,9 @@ pub record IsUpdateOf (held : Contents) (u : Loaded) (texts : UpdateTexts) : Typ
   pub manifest_read : IfReads texts.manifest (planned_image Image held u)
   pub aux_read : stamps_of_slot (Some texts.aux) ≡ stamps_in Image held u.tree u.stamps
   pub counted : length (update_keys Image held u.tree u.stamps) ≡ length (conf_keys (conf_of Image) held u.tree) + opened_in Image held u.tree u.stamps
-  pub right : IsHonest held u → IsInfoRight Image held u.tree u.stamps
-  pub rebuilt : IsHonest held u → IsRebuiltOf held u texts
-  pub settled : IsHonest held u → AreSettled Image held u (planned_image Image held u)
+  pub right : IsReliable held u → IsInfoRight Image held u.tree u.stamps
+  pub rebuilt : IsReliable held u → IsRebuiltOf held u texts
+  pub settled : IsReliable held u → AreSettled Image held u (planned_image Image held u)
 
 -- the updates of these sessions are made one after the other; they turn the first files into the second ones, and these are their reports
 abbrev pub AreMade : Contents → List Loaded → Slots → Slots → List (List ℕ) → Type 0
@@ -158,5 +158,5 @@ HasItsTree s slots = s.edited ≡ false → manifest_of slots.manifest ≡ HasTr
 pub record RebuildsScript (held : Contents) (number : ℕ) (lines : List (List ℕ)) (s : Loaded) (to : Result Loaded ScriptFault) (content : DiskContent) (old new : States) : Type 0 where
   pub left : LeavesRebuilt held (course held number lines s) to content old new
   pub stored : HasItsTree s content.now → OfLast left.made (λ u. IsImageIn left.slots (planned_image Image held u))
-  pub honest : AreHonest held s.stamps (course held number lines s).asked → All (IsHonest held) left.made
-  pub settled : AreHonest held s.stamps (course held number lines s).asked → OfLast left.made (λ u. HoldUpdateOf held (planned_image Image held u) left.slots)
+  pub reliable : AreReliable held s.stamps (course held number lines s).asked → All (IsReliable held) left.made
+  pub settled : AreReliable held s.stamps (course held number lines s).asked → OfLast left.made (λ u. HoldUpdateOf held (planned_image Image held u) left.slots)

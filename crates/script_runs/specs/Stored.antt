@@ -20,7 +20,7 @@ use Rattle.command_status.specs.declared.status.Status.TheVariants.{Done, NoMemo
 use Rattle.command_status.specs.Status.{of_load}
 use Rattle.update_runs.specs.Update.{States}
 use Rattle.script_runs.specs.declared.fault.ScriptFault.{ScriptFault}
-use Rattle.script_runs.specs.Course.{AreHonest, course}
+use Rattle.script_runs.specs.Course.{AreReliable, course}
 use Rattle.script_runs.specs.Crash.{IsOfOld, IsOfUpdate, LeavesWholeCaches, MayBeLeft}
 use Rattle.script_runs.specs.Faults.{status_of}
 use Rattle.script_runs.specs.Left.{RebuildsScript}
@@ -122,7 +122,7 @@ pub record IsRepairable (held : Contents) (s : Loaded) (updates : List Loaded) (
 -- assumes that the identities are trustworthy in the session and in those whose updates are asked for.
 abbrev pub RepairsScript : Contents → List (List ℕ) → DiskContent → DiskState → DiskState → Type 0
 RepairsScript held lines content old new =
-    LeavesOnly old content.now → (s : Loaded) → IsImageIn content.now s → AreHonest held s.stamps (s ∷ (course held 1 lines s).asked)
+    LeavesOnly old content.now → (s : Loaded) → IsImageIn content.now s → AreReliable held s.stamps (s ∷ (course held 1 lines s).asked)
     → (image : Slots) → MightBeLeft old.time new image → IsRepairable held s (course held 1 lines s).updates content.now image
 
 -- ---- everything that is known of a script

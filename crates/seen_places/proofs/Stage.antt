@@ -38,15 +38,3 @@ module _ (t part : Nodes) where
   more_paths : (paths looked : List (List ℕ)) → AreSeen t part looked → AreSeen t part paths → AreSeen t part (with_paths looked paths)
   more_paths [] looked all more = all
   more_paths (q ∷ paths) looked all more = more_paths paths (with_path looked q) (one_path looked q all (more.0, tt)) more.1
-
--- With the planned links, what was seen of the directory is what was seen of the tree with the links.
-pub seen_planned : (t : Nodes) (s : Seen) (what : Analyses) (places : List Place) → IsSeenOf t s → HaveNames what → are_dirs t places ≡ true
-    → IsSeenOf (with_links t (links what t places)) (with_plan s (links what t places))
-seen_planned t s what places known named dirs =
-    let plan = links what t places in
-    let paths = map (λ (planned : Planned). planned.path) plan in
-    record {
-      whole = whole_planned t known.whole what named places dirs;
-      part = part_planned t known.whole what named places dirs s.part known.part;
-      nodes = more_paths (with_links t plan) (with_links s.part plan) paths s.looked (all_with plan t s.part s.looked known.nodes) (paths_put plan t s.part);
-    }

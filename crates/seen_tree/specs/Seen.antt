@@ -84,14 +84,6 @@ pub record HasListed (t : Nodes) (old new : Lists) (dirs : List (List ℕ)) : Ty
   pub names : AreNamesOf t new
   pub listed : keys_of new ≡ with_dirs (keys_of old) dirs
 
-abbrev pub ListsOf : FolderState → Lists → Lists → (Nodes → List (List ℕ)) → Type 0
-ListsOf folder old new dirs = IfKnown folder.contents (λ c. AreNamesOf c.now old → HasListed c.now old new (dirs c.now))
-
--- exactly these paths were looked up and these directories were listed in addition, if the content is known
-abbrev pub SeesIn : FolderState → Seen → Seen → Lists → Lists → (Nodes → List (List ℕ)) → (Nodes → List (List ℕ)) → Type 0
-SeesIn folder old new before after paths dirs =
-    IfKnown folder.contents (λ c. IsSeenOf c.now old → AreNamesOf c.now before → HasSeen c.now old new (paths c.now) × HasListed c.now before after (dirs c.now))
-
 -- ---- the calls
 
 abbrev pub path_of : FolderCall → Option (List ℕ)

@@ -132,7 +132,7 @@ module _ (scope : Scope) (held : Contents) (t part : Nodes) (loaded : List Stamp
 
   -- ---- the planned links
 
-  links_are : links_in scope held part loaded ≡ links_in scope held t loaded
+  pub links_are : links_in scope held part loaded ≡ links_in scope held t loaded
   unfolding links_in
   links_are = ap (links what_part part) places_are ∙ links_read t part whole is what what_part (places_in scope held t) seen.files agree named_part dirs_there
 
@@ -251,7 +251,7 @@ module _ (scope : Scope) (held : Contents) (t part : Nodes) (loaded : List Stamp
 
   -- ---- the files that are opened
 
-  first_keys : wanted_keys scope held part loaded ≡ wanted_keys scope held t loaded
+  pub first_keys : wanted_keys scope held part loaded ≡ wanted_keys scope held t loaded
   unfolding wanted_keys
   first_keys = ap (opened_keys part (ids_of loaded)) wanted_are ∙ opened_seen t part (ids_of loaded) (wanted_in scope held t) wanted_there
 
@@ -259,7 +259,7 @@ module _ (scope : Scope) (held : Contents) (t part : Nodes) (loaded : List Stamp
   unfolding ids_wanted
   ids_are = ap (λ paths. ids_of loaded ++ ids_at part paths) wanted_are ∙ ap (λ l. ids_of loaded ++ l) (ids_seen t part (wanted_in scope held t) wanted_there)
 
-  next_keys : after_keys scope held part loaded ≡ after_keys scope held t loaded
+  pub next_keys : after_keys scope held part loaded ≡ after_keys scope held t loaded
   unfolding after_keys
   next_keys =
       ap (λ ids. opened_keys part ids (after_in scope held part loaded)) ids_are
@@ -269,18 +269,18 @@ module _ (scope : Scope) (held : Contents) (t part : Nodes) (loaded : List Stamp
   lacks_are : conf_lacks (conf_of scope) held part ≡ conf_lacks (conf_of scope) held t
   lacks_are = conf_lacks_seen t part whole is held (conf_of scope) seen.conf
 
-  lacking_are : lacks_wanted scope held part loaded ≡ lacks_wanted scope held t loaded
+  pub lacking_are : lacks_wanted scope held part loaded ≡ lacks_wanted scope held t loaded
   lacking_are =
       ap (λ b. b || lacks_one held (wanted_keys scope held part loaded)) lacks_are ∙ ap (λ keys. conf_lacks (conf_of scope) held t || lacks_one held keys) first_keys
 
-  keys_are : search_keys scope held part loaded ≡ search_keys scope held t loaded
+  pub keys_are : search_keys scope held part loaded ≡ search_keys scope held t loaded
   unfolding search_keys
   keys_are =
       ap (λ keys. keys ++ (cond (conf_lacks (conf_of scope) held part) [] (until_lacking held (wanted_keys scope held part loaded)))) (conf_keys_seen t part whole is held (conf_of scope) seen.conf)
       ∙ ap (λ b. conf_keys (conf_of scope) held t ++ (cond b [] (until_lacking held (wanted_keys scope held part loaded)))) lacks_are
       ∙ ap (λ keys. conf_keys (conf_of scope) held t ++ (cond (conf_lacks (conf_of scope) held t) [] (until_lacking held keys))) first_keys
 
-  bytes_are : search_bytes scope held part loaded ≡ search_bytes scope held t loaded
+  pub bytes_are : search_bytes scope held part loaded ≡ search_bytes scope held t loaded
   unfolding search_bytes
   bytes_are =
       ap (λ n. n + (cond (conf_lacks (conf_of scope) held part) 0 (most_of held (until_lacking held (wanted_keys scope held part loaded))))) (conf_bytes_seen t part whole is held (conf_of scope) seen.conf)

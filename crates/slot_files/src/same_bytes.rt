@@ -1,10 +1,12 @@
 //! Whether two files have the same bytes.
 ghost use Rattle.std.specs.Prelude.{◌≡◌, ◌↔◌, ◌≤◌, ℕ, List, Option, drop, length, take, IfOk, IsTrue};
+ghost use Rattle.slot_files.specs.declared.same_bytes.TheConstants.{WINDOW};
 ghost use Rattle.tree_face.specs.Known.{IfKnown};
 
 use std::io;
 use std::os::unix::fs::FileExt;
 
+// How many bytes of each file are compared at a time.
 const WINDOW: usize = 4096;
 
 /// The bytes of a file. Of a real file, contracts don't know them.
@@ -44,7 +46,7 @@ pub fn have_same_bytes<F: Bytes>(one: &F, other: &F, length: u64) -> io::Result<
 
 // Whether two files have the same bytes in this piece, which is no longer than a window.
 fn is_same_piece<F: Bytes>(one: &F, other: &F, at: u64, count: u64) -> io::Result<bool>
-    requires { count ≤ 4096 }
+    requires { count ≤ WINDOW }
     ensures { IfOk result (λ same. IfKnown (F.content one.now) (λ ones. IfKnown (F.content other.now) (λ others. IsTrue same ↔ take count (drop at ones) ≡ take count (drop at others)))) }
 {
     let mut ones = [0u8; WINDOW];

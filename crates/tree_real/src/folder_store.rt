@@ -9,6 +9,7 @@ use device_rules::{Identity, foreign_machine};
 use image_folder::{HeldFile, ImageFolder, shorter};
 use lib_types::{Failed, NoMemory};
 use name_order::is_library_name;
+use path_walk::parted;
 use standard_streams::Streams;
 use std::io::{self, Error, ErrorKind};
 use std::os::unix::fs::FileExt;
@@ -171,11 +172,7 @@ fn count_at(size: u64, at: u64, room: usize) -> usize
 
 // Whether the last name of a path is a library's name.
 fn is_library(key: &[u8]) -> bool {
-    let name = match key.iter().rposition(|b| *b == b'/') {
-        Some(at) => key.get(at + 1..).unwrap_or(key),
-        None => key,
-    };
-    is_library_name(name)
+    is_library_name(parted(key).1)
 }
 
 impl<R: Runtime + Streams> Store for FolderStore<R>

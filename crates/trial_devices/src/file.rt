@@ -4,7 +4,7 @@ use image_folder::{HeldFile, Lock};
 use std::fs::{File, FileTimes, Files, Metadata, OpenFile, Permissions};
 use std::io::{self, Read, Seek, SeekFrom, Write};
 use std::os::fd::{AsRawFd, RawFd};
-use std::os::unix::fs::FileExt;
+use std::os::unix::fs::{FileExt, MetadataExt};
 use std::rc::Rc;
 
 /// An open file.
@@ -17,6 +17,13 @@ pub struct TrialFile {
 impl TrialFile {
     pub(crate) fn new(file: File, plan: Rc<Plan>) -> TrialFile {
         TrialFile { file, plan }
+    }
+
+    // A flush is counted and not made: it takes long, and a trial can't see whether it was made.
+    fn flush_all(&self) -> io::Result<()> {
+        self.plan.pass(SystemCall::Sync)?;
+        self.plan.add_flush(self.file.metadata()?.ino());
+        Ok(())
     }
 }
 
@@ -74,13 +81,12 @@ impl OpenFile for TrialFile {
         self.file.set_len(size)
     }
 
-    // A flush is counted and not made: it takes long, and a trial can't see whether it was made.
     fn sync_all(&self) -> io::Result<()> {
-        self.plan.pass(SystemCall::Sync)
+        self.flush_all()
     }
 
     fn sync_data(&self) -> io::Result<()> {
-        self.plan.pass(SystemCall::Sync)
+        self.flush_all()
     }
 
     fn set_permissions(&self, perm: Permissions) -> io::Result<()> {

@@ -10,7 +10,7 @@ mod report;
 mod runtime;
 
 pub use file::{TrialDir, TrialFile};
-pub use plan::{Manner, Plan, SystemCall};
+pub use plan::{Flushes, Manner, Plan, SystemCall};
 pub use random::Random;
 pub use reader::TrialReader;
 pub use report::Report;

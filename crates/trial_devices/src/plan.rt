@@ -51,6 +51,30 @@ pub enum SystemCall {
     Lock,
 }
 
+/// The flushes of files and directories.
+#[derive(Clone, Copy, Debug, PartialEq, Eq)]
+pub struct Flushes {
+    pub count: u64,
+    /// The sum of the inodes of what was flushed.
+    pub inodes: u64,
+}
+
+impl Flushes {
+    /// No flush.
+    pub const NONE: Flushes = Flushes {
+        count: 0,
+        inodes: 0,
+    };
+
+    /// These flushes, and one of the file with this inode.
+    pub fn with(self, inode: u64) -> Flushes {
+        Flushes {
+            count: self.count.saturating_add(1),
+            inodes: self.inodes.wrapping_add(inode),
+        }
+    }
+}
+
 /// What a trial does with the calls of a device, and what it has seen of them. All copies of a runtime share it.
 #[derive(Drop)]
 pub struct Plan {
@@ -62,6 +86,7 @@ pub struct Plan {
     failed: Cell<Option<SystemCall>>,
     // The number of lines on the error output.
     lines: Cell<u64>,
+    flushes: Cell<Flushes>,
     // Whether the standard output counts as a terminal.
     is_terminal: Cell<bool>,
 }
@@ -78,6 +103,7 @@ impl Plan {
             left: Cell::new(None),
             failed: Cell::new(None),
             lines: Cell::new(0),
+            flushes: Cell::new(Flushes::NONE),
             is_terminal: Cell::new(false),
         }
     }
@@ -114,6 +140,18 @@ impl Plan {
         let lines = self.lines.get();
         self.lines.set(0);
         lines
+    }
+
+    /// The flushes since this was asked last.
+    pub fn take_flushes(&self) -> Flushes {
+        let flushes = self.flushes.get();
+        self.flushes.set(Flushes::NONE);
+        flushes
+    }
+
+    /// Counts a flush of the file with this inode.
+    pub fn add_flush(&self, inode: u64) {
+        self.flushes.set(self.flushes.get().with(inode));
     }
 
     /// Counts a call. It is an error if this is the call that fails.

@@ -1,9 +1,12 @@
-use Rattle.std.proofs.Common.{option_map, refl}
-use Rattle.asking_runs.proofs.Asking.{asks}
-use Rattle.asking_runs.specs.Lookup.{lookup_answer, path_answer}
+use Rattle.std.proofs.Common.{rules, ◌≡◌, true, false}
 use Rattle.asking_runs.proofs.lookup.run_lookup.Goals as goal
 
-pub returns-clause-runs : goal.returns-clause-runs
-returns-clause-runs g c store source =
-    asks _ _ c.end.result (λ found. path_answer (option_map (λ path. path.now) found.path)) (lookup_answer c.args.asked.now) c.read_slot-read.result c.look_up.result
-    c.read_slot-read.ensures c.look_up.ensures c.end.ensures.ends refl refl
+pub returns-then-json-clause-runs : goal.returns-then-json-clause-runs
+returns-then-json-clause-runs g c store source =
+    let is : c.args.asked.now.json ≡ true = search rules in
+    rw is (c.run_as_json.ensures.runs store source)
+
+pub returns-else-json-clause-runs : goal.returns-else-json-clause-runs
+returns-else-json-clause-runs g c store source =
+    let is : c.args.asked.now.json ≡ false = search rules in
+    rw is (c.run_as_text.ensures.runs store source)

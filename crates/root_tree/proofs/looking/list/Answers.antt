@@ -1,5 +1,6 @@
 use Rattle.std.proofs.Common.{rules, ◌≡◌, ◌+◌, subst, drop}
-use Rattle.root_tree.proofs.Listing.{listing_full, listing_on, next_name, read_ok}
+use Rattle.root_tree.proofs.Listing.{listing_full, listing_on, next_name}
+use Rattle.root_tree.proofs.Readings.{read_ok}
 use Rattle.root_tree.specs.SoFar.{IsFullAt, IsListing, seen, so_far}
 use Rattle.image_tree.specs.Paths.{join}
 use Rattle.tree_face.specs.Known.{IfKnown}

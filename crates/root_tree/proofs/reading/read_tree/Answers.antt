@@ -1,5 +1,6 @@
 use Rattle.std.proofs.Common.{rules, ◌≡◌, ◌++◌, ◌∷◌, []}
-use Rattle.root_tree.proofs.Listing.{read_ok, reading_ends, reading_on}
+use Rattle.root_tree.proofs.Listing.{reading_ends, reading_on}
+use Rattle.root_tree.proofs.Readings.{read_ok}
 use Rattle.root_tree.specs.SoFar.{so_far}
 use Rattle.root_tree.proofs.reading.read_tree.Goals as goal
 

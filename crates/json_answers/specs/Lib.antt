@@ -1,0 +1,4 @@
+pub mod Cached
+pub mod Looked
+pub mod Programs
+pub mod Texts

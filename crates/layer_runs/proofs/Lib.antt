@@ -1,0 +1,4 @@
+mod Adopted
+mod Images
+mod Repaired
+mod Statuses

@@ -1,0 +1,5 @@
+//! Tests of the command `layers`.
+#![tactic(auto)]
+
+#[cfg(test)]
+mod rows;

@@ -1,0 +1,4 @@
+pub mod Hiding
+pub mod Steps
+pub mod Union
+pub mod Whiteouts

@@ -1,0 +1,6 @@
+mod Checked
+mod Completed
+mod Directory
+mod Ends
+mod First
+mod Updated

@@ -1,0 +1,5 @@
+pub mod Answers
+pub mod Check
+pub mod Ending
+pub mod Run
+pub mod Update
