@@ -1,5 +1,5 @@
 -- Consecutive writing calls, and slots that are replaced one after another.
-use Rattle.std.proofs.Common.{◌≡◌, ◌+◌, ◌==◌, ◌&&◌, ℕ, zero, suc, true, false, List, [], ◌∷◌, ◌++◌, length, take, Some, refl, sym, ap, subst, ◌∙◌, append_assoc, inl, inr, arith, Result, Ok, Err, OnOk}
+use Rattle.std.proofs.Common.{◌≡◌, ◌+◌, ◌==◌, ◌&&◌, ℕ, zero, suc, true, false, List, [], ◌∷◌, ◌++◌, length, take, Some, refl, sym, ap, subst, ◌∙◌, append_assoc, inl, inr, arith}
 use Rattle.std.proofs.lemmas.List.{take-append-le}
 use Rattle.std.proofs.lemmas.Option.{slice_get_within}
 use Rattle.std.proofs.Math.Seq.{take-append-add}
@@ -151,7 +151,3 @@ pub rest_on : (tag : ℕ) (slots : List Slot) (a b c : DiskState) → KeepsRestM
 rest_on tag slots a b c first next = λ t s h. next t s h ∙ first t s h
 
 -- ---- results
-
-pub on_ok_by : {A E : Type 0} (P Q : Type 0) (r : Result A E) → (P → Q) → OnOk r P → OnOk r Q
-on_ok_by P Q (Ok x) f p = f p
-on_ok_by P Q (Err e) f p = tt

@@ -4,22 +4,16 @@ use Rattle.std.proofs.Common.{drop-cons}
 use Rattle.std.specs.List.{list_any}
 use Rattle.atomic_replace.specs.declared.fault.DiskFault.{DiskFault}
 use Rattle.atomic_replace.specs.Replace.{Write}
-use Rattle.tree_face.specs.declared.disk.Slot.{Slot}
-use Rattle.tree_face.specs.declared.disk.Slot.TheVariants.{Manifest, Cache, Aux}
 use Rattle.tree_face.specs.declared.disk.Tag.{Tag}
 use Rattle.tree_face.specs.Disk.{DiskState, KeepsOthersMade, slot_eq}
 use Rattle.atomic_replace.proofs.CallsOneByOne.{part_first, part_second, rest_made, rest_on, writes_on}
 use Rattle.atomic_replace.specs.OneByOne.{HasReplaced, WritesAll, WritesPart, slots_of, writes_in}
 use Rattle.atomic_replace.specs.declared.slots.SlotWrite.{SlotWrite}
-
-itself : (slot : Slot) → slot_eq slot slot ≡ true
-itself Manifest = refl
-itself Cache = refl
-itself Aux = refl
+use Rattle.tree_face.proofs.Crash.{same_slot}
 
 -- the slot of a list's item is in the list's slots
 among : (done : List Write) (w : Write) (rest : List Write) → list_any (slot_eq w.0) (slots_of (done ++ w ∷ rest)) ≡ true
-among [] w rest = ap (λ b. b || list_any (slot_eq w.0) (slots_of rest)) (itself w.0)
+among [] w rest = ap (λ b. b || list_any (slot_eq w.0) (slots_of rest)) (same_slot w.0)
 among (x ∷ done) w rest = ap (λ b. slot_eq w.0 x.0 || b) (among done w rest) ∙ or_true (slot_eq w.0 x.0)
   where
     or_true : (b : _) → (b || true) ≡ true

@@ -254,7 +254,7 @@ all_back xs w =
 is_same : (n m : ℕ) → n ≡ m → (n == m) ≡ true
 is_same n m h = grind (arith, nat_tests)
 
-not_below : (n m : ℕ) → m ≤ n → nat_lt n m ≡ false
+pub not_below : (n m : ℕ) → m ≤ n → nat_lt n m ≡ false
 not_below n m h = grind (arith, nat_tests)
 
 magic_there : (xs : List Stamp) (rest : List ℕ) → starts_with nat_eq (front xs ++ rest) (magic V1_1) ≡ true

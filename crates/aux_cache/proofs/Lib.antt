@@ -1,6 +1,6 @@
 pub mod Accepted
 mod Adding
-mod Back
+pub mod Back
 mod ByIds
 mod Damage
 mod DefectCodes

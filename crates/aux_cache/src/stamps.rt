@@ -7,6 +7,7 @@ ghost use Rattle.aux_cache.specs.Stamps.{IsSortedById, put, stamp_of};
 ghost use Rattle.aux_cache.specs.Index.{IsIndexOf, IsGapFor};
 
 use crate::order::compare;
+use image_tree::NODES_MAX;
 use lib_types::{Analysis, NoMemory};
 use std::alloc::Global;
 use std::cmp::Ordering;
@@ -14,7 +15,7 @@ use std::marker::Model;
 use tree_face::Id;
 
 /// The maximum number of stamps in a file: one for each node that a tree may have.
-pub const STAMPS_MAX: usize = 1 << 20;
+pub const STAMPS_MAX: usize = NODES_MAX;
 
 /// The cached ELF information of a file, with the file's identity.
 #[derive(Drop)]

@@ -10,9 +10,10 @@ use Rattle.place_libraries.proofs.Named.{best_has}
 use Rattle.place_libraries.specs.Best.{best, bests, better, has_soname, is_preferred, sonames}
 use Rattle.place_libraries.specs.Library.{Library}
 use Rattle.place_libraries.specs.Pick.{is_better_by}
-use Rattle.cache_entries.proofs.OneEach.{none_left, one_left, turned}
+use Rattle.cache_entries.proofs.OneEach.{none_left, one_left}
 use Rattle.cache_entries.proofs.Single.{winner_has}
 use Rattle.cache_entries.specs.Winner.{named_links, or_else, other_links, winner, winners_among}
+use Rattle.lib_types.proofs.SameTexts.{turned}
 
 abbrev pub names_of : List Library → List (List ℕ)
 names_of libraries = map (λ library. library.soname) libraries

@@ -1,19 +1,19 @@
 -- Merging the best files and the winners among the links by soname gives the winners of a search directory.
-use Rattle.std.proofs.Common.{◌≡◌, ◌<◌, length, arith, ℕ, true, false, cond, List, [], ◌∷◌, ◌++◌, refl, ap, sym, subst, ◌∙◌, Option, Some, None, Ordering}
+use Rattle.std.proofs.Common.{◌≡◌, ◌<◌, length, arith, ℕ, true, false, cond, List, [], ◌∷◌, ◌++◌, refl, ap, sym, subst, ◌∙◌, Option, Some, None}
 use Rattle.std.proofs.lemmas.Cmp.{nat_list_cmp_total}
 use Rattle.std.proofs.lemmas.Map.Keys.{sorted_head, sorted_tail}
 use Rattle.std.proofs.lemmas.Slice.Eq.{bytes_eq-Decides}
-use Rattle.std.specs.Cmp.Lexicographic.{slice_cmp, texts_ties}
+use Rattle.std.specs.Cmp.Lexicographic.{texts_ties}
 use Rattle.std.specs.List.{AllByRecursion, cons_option, filter, filter_map, find, fold, slice_get}
 use Rattle.std.specs.Option.{is_some}
 use Rattle.std.specs.Iterator.{YieldsFirstBy, MakesProgress, item_count}
 use Rattle.std.specs.List.Sorted.{IsStrictlySortedBy}
-use Rattle.std.specs.Ordering.{is_eq, match_ordering, nat_cmp}
+use Rattle.std.specs.Ordering.{is_eq, match_ordering}
 use Rattle.std.specs.Str.{bytes_eq}
 use Rattle.std.specs.declared.cmp.Ordering.TheVariants.{Less, Equal, Greater}
 use Rattle.lib_types.proofs.SortedPairs.{by_ordering, by_test, flipped}
 use Rattle.string_pool.proofs.InByteOrder.{ascending_sorted, same_text}
-use Rattle.string_pool.proofs.Members.{AreSorted, itself}
+use Rattle.string_pool.proofs.Members.{AreSorted, cmp}
 use Rattle.place_libraries.proofs.Named.{best_has}
 use Rattle.string_pool.proofs.Ordered.{all_below}
 use Rattle.place_libraries.specs.Best.{best, better, bests, has_soname, sonames}
@@ -24,9 +24,7 @@ use Rattle.cache_entries.proofs.Single.{winner_has}
 use Rattle.cache_entries.specs.Merged.{merged, turn}
 use Rattle.cache_entries.specs.Others.{HaveOthers}
 use Rattle.cache_entries.specs.Winner.{named_links, or_else, other_links, winner, winners_among}
-
-abbrev cmp : List ℕ → List ℕ → Ordering
-cmp = slice_cmp nat_cmp
+use Rattle.lib_types.proofs.SameTexts.{itself}
 
 abbrev at : List Library → List ℕ → Option Library
 at libraries soname = find (has_soname soname) libraries

@@ -7,7 +7,7 @@ use Rattle.std.specs.Str.{bytes_eq}
 use Rattle.hwcap_dirs.specs.declared.kinds.Place.{Place}
 use Rattle.image_tree.specs.Tree.{Nodes}
 use Rattle.path_walk.specs.Names.{last}
-use Rattle.string_pool.proofs.Members.{is_in, itself}
+use Rattle.string_pool.proofs.Members.{is_in}
 use Rattle.file_table.proofs.Agreeing.{agree_first, agree_in_order, agree_later}
 use Rattle.place_libraries.proofs.NoOtherFiles.{by_place_same, libraries_agree}
 use Rattle.file_table.specs.Analyses.{Analyses, AgreeOn}
@@ -16,6 +16,7 @@ use Rattle.library_files.specs.Search.{files_of, folder_links, followed, followe
 use Rattle.library_files.specs.Link.{FollowedLink}
 use Rattle.cache_entries.specs.Entries.{entry_of, found}
 use Rattle.cache_entries.specs.Winner.{library_after, linked, links_to_libraries, winners_among, winners_in}
+use Rattle.lib_types.proofs.SameTexts.{itself}
 
 module _ (what new : Analyses) where
   abbrev following : List FollowedLink → List (List ℕ)

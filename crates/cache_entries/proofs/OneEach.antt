@@ -10,13 +10,7 @@ use Rattle.lib_types.proofs.SortedPairs.{by_test}
 use Rattle.string_pool.proofs.Members.{AreSorted, is_in, none_below}
 use Rattle.place_libraries.specs.Best.{has_soname}
 use Rattle.place_libraries.specs.Library.{Library}
-
-pub turned : (x z : List ℕ) → bytes_eq z x ≡ bytes_eq x z
-turned x z = by_test (bytes_eq x z)
-    (λ e. let same : x ≡ z = (bytes_eq-Decides x z).0 e in (bytes_eq-Decides z x).1 (sym same) ∙ sym e)
-    (λ e. by_test (bytes_eq z x)
-    (λ f. let same : z ≡ x = (bytes_eq-Decides z x).0 f in let there : bytes_eq x z ≡ true = (bytes_eq-Decides x z).1 (sym same) in absurd (cc))
-    (λ f. f ∙ sym e))
+use Rattle.lib_types.proofs.SameTexts.{turned}
 
 -- the first item that passes is the first of the filtered items
 pub find_first : {X : Type 0} (p : X → Bool) (xs : List X) → find p xs ≡ slice_get (filter p xs) 0

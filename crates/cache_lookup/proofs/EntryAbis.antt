@@ -30,7 +30,7 @@ joined_some (Some o) abi b abis e = some_by (is_same_abi o abi) o b abis e
 -- ---- one more entry
 
 -- any entry, where an index has one
-no_entry : CachedEntry
+pub no_entry : CachedEntry
 no_entry = record { flags = pos 0; name = []; path = []; hwcap = 0; cap = None }
 
 module _ (entries : List CachedEntry) (i : ℕ) (e : CachedEntry) (within : i < length entries) (is : IsEntryOf entries i e) where

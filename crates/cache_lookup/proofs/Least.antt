@@ -1,5 +1,5 @@
 -- The first candidate with the lowest rank is the entry that the loader takes.
-use Rattle.std.proofs.Common.{◌≡◌, ◌<◌, ◌≤◌, ℕ, zero, suc, ◌+◌, Bool, true, false, cond, nat_lt, ◌&&◌, pos, List, [], ◌∷◌, length, get_or, Option, Some, None, option_map, refl, sym, ap, ◌∙◌, subst, arith}
+use Rattle.std.proofs.Common.{◌≡◌, ◌<◌, ◌≤◌, ℕ, zero, suc, ◌+◌, Bool, true, false, cond, nat_lt, ◌&&◌, List, [], ◌∷◌, length, get_or, Option, Some, None, option_map, refl, sym, ap, ◌∙◌, subst, arith}
 use Rattle.std.proofs.Math.Decide.{dec_lt}
 use Rattle.std.proofs.lemmas.Bool.Decides.{nat_tests}
 use Rattle.std.specs.List.{position}
@@ -15,6 +15,7 @@ use Rattle.cache_lookup.specs.Probing.{order_to, rank_of}
 use Rattle.cache_lookup.specs.Searches.{IsLeast, IsLeastAt, better, is_below}
 use Rattle.cache_lookup.specs.declared.choice.Choice.{Choice}
 use Rattle.cache_lookup.proofs.Positions.{first_is, none_is, position-cons, shifted}
+use Rattle.cache_lookup.proofs.EntryAbis.{no_entry}
 
 -- ---- candidates have equal names
 
@@ -96,9 +97,6 @@ least_rest rank entries n (suc more) best least none =
 
 -- ---- all entries
 
-pub blank : CachedEntry
-blank = record { flags = pos 0; name = []; path = []; hwcap = 0; cap = None }
-
 module _ (entries : List CachedEntry) (candidate : CachedEntry → Bool) where
   abbrev ranks : List (CachedEntry → Bool) → CachedEntry → Option ℕ
   ranks tests entry = cond (candidate entry) (position (λ fits. fits entry) tests) None
@@ -138,7 +136,7 @@ module _ (entries : List CachedEntry) (candidate : CachedEntry → Bool) where
       rw (none_is (λ e. candidate e && test e) entries (λ k d h. (both k d h).0)) (none_first tests (λ k d h. (both k d h).1))
 
   least_first : (tests : List (CachedEntry → Bool)) (i m : ℕ) → IsLeastAt (ranks tests) entries (length entries) i m → first_for entries candidate tests ≡ Some i
-  least_first [] i m least = absurd (let e = least.has blank in none_ranked (candidate (get_or entries i blank)) e)
+  least_first [] i m least = absurd (let e = least.has no_entry in none_ranked (candidate (get_or entries i no_entry)) e)
     where
       none_ranked : (b : Bool) → cond b None None ≡ Some m → ⊥
       none_ranked true e = cc

@@ -15,8 +15,9 @@ use Rattle.cache_lookup.specs.declared.choice.Choice.{Choice}
 use Rattle.std.proofs.Math.Decide.{dec_lt}
 use Rattle.lib_types.specs.Counts.{raised}
 use Rattle.tree_face.proofs.StoreUse.{raised-add, raised-mono}
-use Rattle.cache_lookup.proofs.Least.{blank, least_rest, no_rank}
+use Rattle.cache_lookup.proofs.Least.{least_rest, no_rank}
 use Rattle.cache_lookup.proofs.NameOrders.{unequal}
+use Rattle.cache_lookup.proofs.EntryAbis.{no_entry}
 
 -- ---- the number of these entries
 
@@ -81,5 +82,5 @@ more_steps old count new start i order steps step =
 pub run_steps : (name : List ℕ) (entries : List CachedEntry) (start i old count new : ℕ) → start ≤ i → i ≤ length entries → AreEqual name entries start i
     → count ≤ raised old (i - start) → new ≤ raised count 1 → new ≤ raised old (1 + count_equal name entries)
 run_steps name entries start i old count new order within equal steps step =
-    let run = counted_run (λ e. is_eq (order_to name e)) entries blank start i order within equal in
+    let run = counted_run (λ e. is_eq (order_to name e)) entries no_entry start i order within equal in
     raised-mono old new (i - start + 1) (1 + count_equal name entries) (omega (arith, run)) (raised-add old count new (i - start) 1 steps step)

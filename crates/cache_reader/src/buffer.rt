@@ -1,6 +1,7 @@
 //! A buffer before a sink, so that words aren't written one at a time.
 ghost use Rattle.std.specs.Prelude.{◌≡◌, ◌+◌, ◌++◌, ◌≤◌, [], length, OnOk};
 ghost use Rattle.cache_reader.specs.Buffers.{Puts};
+ghost use Rattle.cache_reader.specs.declared.buffer.TheConstants.{SIZE};
 
 use lib_types::Failed;
 use std::marker::Model;
@@ -18,12 +19,13 @@ pub struct Buffer {
 
 impl Model for Buffer {
     ghost use Rattle.std.specs.Prelude.{ℕ, List, ◌≤◌, take};
+    ghost use Rattle.cache_reader.specs.declared.buffer.TheConstants.{SIZE};
 
     ghost Value = { List ℕ };
 
     ghost view = { λ b. take b.len b.bytes };
 
-    ghost invariant = { λ b. b.len ≤ 4096 };
+    ghost invariant = { λ b. b.len ≤ SIZE };
 }
 
 impl Buffer {
@@ -39,7 +41,7 @@ impl Buffer {
 
     fn len(&self) -> usize
         ensures value { result ≡ length self.now }
-        ensures small { result ≤ 4096 }
+        ensures small { result ≤ SIZE }
     {
         self.len
     }
@@ -58,7 +60,7 @@ impl Buffer {
 
     // Appends a text. It must fit.
     fn push(&mut self, text: &[u8])
-        requires { length self.old + length text.now ≤ 4096 }
+        requires { length self.old + length text.now ≤ SIZE }
         ensures { self.new ≡ self.old ++ text.now }
     {
         let end = self.len + text.len();

@@ -1,16 +1,8 @@
 -- What is looked up in sequence in a view of a tree.
-use Rattle.std.proofs.Common.{◌≡◌, ℕ, List, [], ◌++◌, append-nil, refl, ap, sym, ◌∙◌}
-use Rattle.std.proofs.lemmas.List.Sums.{fold-append}
-use Rattle.std.specs.Str.{bytes_eq}
-use Rattle.indexmap.specs.IndexSet.{insert_key}
+use Rattle.std.proofs.Common.{ℕ, List, [], ◌++◌, append-nil, refl, ap, sym, ◌∙◌}
 use Rattle.conf_views.specs.View.{IsSameView, LooksBut, LooksUp, ViewState}
-use Rattle.seen_tree.specs.Seen.{with_dirs, with_path, with_paths}
-
-two_paths : (looked xs ys : List (List ℕ)) → with_paths looked (xs ++ ys) ≡ with_paths (with_paths looked xs) ys
-two_paths looked xs ys = fold-append with_path looked xs ys
-
-two_dirs : (dirs xs ys : List (List ℕ)) → with_dirs dirs (xs ++ ys) ≡ with_dirs (with_dirs dirs xs) ys
-two_dirs dirs xs ys = fold-append (insert_key bytes_eq) dirs xs ys
+use Rattle.seen_tree.specs.Seen.{with_dirs, with_paths}
+use Rattle.seen_tree.proofs.Looked.{two_paths, two_dirs}
 
 pub looks_none : (paths dirs : List (List ℕ)) (s : ViewState) → LooksBut paths paths dirs dirs s s
 looks_none paths dirs s = record { looked = λ part. refl; listed = λ part. refl }

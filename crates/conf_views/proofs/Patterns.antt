@@ -23,7 +23,7 @@ use Rattle.seen_tree.specs.Part.{AreSeen, IsPart, IsSeen, looked_by}
 use Rattle.conf_views.proofs.Each.{filter_map_all, filter_map_seen, flat_map_seen}
 use Rattle.conf_views.specs.Patterns.{choices_looked, listed_in, places_looked, results_looked, texts_looked}
 
-both_tests : {X : Type 0} (p q : X → Bool) (xs : List X) → filter (λ x. p x && q x) xs ≡ filter q (filter p xs)
+pub both_tests : {X : Type 0} (p q : X → Bool) (xs : List X) → filter (λ x. p x && q x) xs ≡ filter q (filter p xs)
 both_tests p q [] = refl
 both_tests p q (x ∷ xs) = by_test (p x)
     (λ e. by_test (q x) (λ f. rw (e, f) (ap (λ z. x ∷ z) (both_tests p q xs))) (λ f. rw (e, f) (both_tests p q xs)))

@@ -3,7 +3,7 @@ use Rattle.std.proofs.Common.{◌≡◌, ◌==◌, ℕ, false, List, [], ◌∷�
 use Rattle.std.proofs.lemmas.Bool.Decides.{nat_tests}
 use Rattle.device_rules.specs.Places.{below_root}
 
-not_slash : (b : ℕ) → (b ≡ 47 → ⊥) → (b == 47) ≡ false
+pub not_slash : (b : ℕ) → (b ≡ 47 → ⊥) → (b == 47) ≡ false
 not_slash b none = grind (arith, nat_tests, none)
 
 pub kept : (path : List ℕ) → ((rest : List ℕ) → path ≡ 47 ∷ rest → ⊥) → path ≡ below_root path

@@ -6,14 +6,11 @@ use Rattle.std.specs.Str.Pattern.{RFindsChar, SplitsAroundMatch}
 use Rattle.std.proofs.lemmas.List.Elements.{All-from_get_or}
 use Rattle.std.proofs.lemmas.List.Folds.{list_any_none}
 use Rattle.std.proofs.lemmas.Str.Pattern.{NoCharPasses-char}
-use Rattle.std.proofs.lemmas.Bool.Decides.{nat_tests}
 use Rattle.lib_types.specs.Bytes.{is_byte}
-
-is_other : (b : ℕ) → (b ≡ 47 → ⊥) → (b == 47) ≡ false
-is_other b none = grind (arith, nat_tests, none)
+use Rattle.device_rules.proofs.BelowRoot.{not_slash}
 
 none_is : (text : List ℕ) → ((i : ℕ) → i < length text → get_or text i 0 ≡ 47 → ⊥) → list_any (is_byte 47) text ≡ false
-none_is text none = list_any_none (is_byte 47) text (All-from_get_or (λ b. is_byte 47 b ≡ false) text 0 (λ i less. is_other _ (none i less)))
+none_is text none = list_any_none (is_byte 47) text (All-from_get_or (λ b. is_byte 47 b ≡ false) text 0 (λ i less. not_slash _ (none i less)))
 
 pub no_slash : (path : List ℕ) → RFindsChar 47 path None → list_any (is_byte 47) path ≡ false
 no_slash path h = none_is path (λ i less. NoCharPasses-char 47 path i h (omega arith) less)

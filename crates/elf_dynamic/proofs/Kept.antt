@@ -46,7 +46,7 @@ pub soname_alike : (keep : Keep) (d e : Dynamic) → kept keep d ≡ kept keep e
 soname_alike All d e h = ap (λ (d : Dynamic). d.soname) h
 soname_alike Soname d e h = ap (λ (d : Dynamic). d.soname) h
 
-abbrev with_name : Dynamic → Dynamic
+abbrev pub with_name : Dynamic → Dynamic
 with_name d = record d { soname = name_of d.soname }
 
 pub name_alike : (keep : Keep) (d e : Dynamic) → kept keep d ≡ kept keep e → kept keep (record d { soname = name_of d.soname }) ≡ kept keep (record e { soname = name_of e.soname })
@@ -103,7 +103,7 @@ text_alike keep tag text d e h = sym (text_kept keep tag text d) ∙ ap (λ (d :
 
 -- ---- all later texts
 
-abbrev ok_of : Dynamic → Result Dynamic Defect
+abbrev pub ok_of : Dynamic → Result Dynamic Defect
 ok_of d = Ok d
 
 pub gathered_alike : (keep : Keep) (t : List ℕ) (es : List DynamicEntry) (d e : Dynamic) → kept keep d ≡ kept keep e → kept_of keep (gathered t d es) ≡ kept_of keep (gathered t e es)

@@ -16,7 +16,7 @@ use Rattle.elf_dynamic.specs.declared.text.TheConstants.{TEXT_LIMIT}
 
 -- ---- two pieces
 
-abbrev live : ℕ → Bool
+abbrev pub live : ℕ → Bool
 live b = not (is_nul b)
 
 while_none : (xs : List ℕ) → list_any is_nul xs ≡ false → take_while live xs ≡ xs

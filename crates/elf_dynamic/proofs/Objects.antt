@@ -55,7 +55,7 @@ ok_defect (Some d) r x h = absurd (cc)
 
 -- ---- the object
 
-abbrev w_of : List ℕ → ℕ
+abbrev pub w_of : List ℕ → ℕ
 w_of bytes = word_size (is_wide bytes)
 
 object_first : (bytes : List ℕ) → first_defect (object_sentences bytes) ≡ first (first_defect (header_sentences bytes)) (first_defect (dynamic_sentences (w_of bytes) bytes))

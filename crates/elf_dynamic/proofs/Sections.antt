@@ -29,7 +29,7 @@ use Rattle.elf_headers.specs.Layout.{segments}
 use Rattle.elf_dynamic.specs.declared.values.Values.{Values}
 use Rattle.elf_dynamic.specs.Values.{texts_in, values_of}
 use Rattle.elf_dynamic.proofs.Known.{before, with, both, three}
-use Rattle.elf_dynamic.proofs.Kept.{unkept, soname_alike, name_alike}
+use Rattle.elf_dynamic.proofs.Kept.{unkept, soname_alike, name_alike, with_name, ok_of}
 use Rattle.elf_dynamic.proofs.Gathered.{all_texts, picked, gathered_all, counted_all}
 use Rattle.elf_dynamic.specs.declared.text.TheConstants.{TEXT_LIMIT}
 
@@ -135,12 +135,6 @@ bad_by (Some e) d x rest h = h
 pub bad_text : (t : List ℕ) (es : List DynamicEntry) (f : Bool) (x : Defect) → list_any has_text es ≡ true → (is_none (value_of strtab es) || is_none (value_of strsz es)) ≡ false →
     gathered t (no_texts f) es ≡ Err x → section_of (Some t) es ≡ Err x
 bad_text t es f x h k g = with_table t es h k ∙ bad_by (bad_entry (Some t) es) (all_texts t f es) x _ (sym (gathered_all t f es) ∙ g)
-
-abbrev ok_of : Dynamic → Result Dynamic Defect
-ok_of d = Ok d
-
-abbrev with_name : Dynamic → Dynamic
-with_name d = record d { soname = name_of d.soname }
 
 good_by : (o : Option DynamicEntry) (d new : Dynamic) (rest : Result Dynamic Defect) (x : Defect) → picked o d ≡ Ok new → (cond (is_some o) (Err x) rest ≡ rest) × (d ≡ new)
 good_by None d new rest x h = (refl, cc)

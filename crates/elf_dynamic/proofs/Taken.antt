@@ -12,7 +12,7 @@ use Rattle.elf_headers.specs.declared.fault.HeadFault.TheVariants as head_faults
 use Rattle.elf_headers.specs.declared.kinds.Head.{Head}
 use Rattle.elf_headers.specs.Faults.{head_ending}
 use Rattle.elf_headers.specs.Header.{first_defect, header_sentences, head}
-use Rattle.elf_headers.specs.Layout.{is_wide, word_size}
+use Rattle.elf_headers.specs.Layout.{word_size}
 use Rattle.elf_headers.specs.Reading.{known_content, OfContent, OfKnown, ReadsFile, OnlyReads}
 use Rattle.elf_headers.proofs.Endings.{begun_and_read}
 use Rattle.elf_headers.proofs.Heads.{gives}
@@ -20,10 +20,7 @@ use Rattle.elf_dynamic.specs.declared.fault.ObjectFault.{ObjectFault}
 use Rattle.elf_dynamic.specs.declared.kinds.Object.{Object}
 use Rattle.elf_dynamic.specs.Faults.{object_ending, of_head}
 use Rattle.elf_dynamic.specs.Taken.{section_reading, readable_section, reading_after, most_taken, most_known}
-use Rattle.elf_dynamic.proofs.Objects.{at_known}
-
-abbrev w_of : List ℕ → ℕ
-w_of bytes = word_size (is_wide bytes)
+use Rattle.elf_dynamic.proofs.Objects.{at_known, w_of}
 
 -- The call reads at most this number of bytes of the file, if contents are known.
 abbrev pub TakesKnown : Option Contents → List ℕ → ℕ → ℕ → Type 0

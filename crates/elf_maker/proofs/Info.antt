@@ -1,5 +1,5 @@
 -- Reading a generated dynamic section back gives the section that it was generated from.
-use Rattle.std.proofs.Common.{◌≡◌, ◌<◌, ◌^◌, ℕ, Bool, true, false, not, ◌&&◌, ◌==◌, List, [], ◌∷◌, ◌++◌, length, filter, Option, Some, None, option_and_then, refl, ap, sym, ◌∙◌, arith, append_assoc}
+use Rattle.std.proofs.Common.{◌≡◌, ◌<◌, ◌^◌, ℕ, Bool, true, false, not, ◌==◌, List, [], ◌∷◌, ◌++◌, length, filter, Option, Some, None, option_and_then, refl, ap, sym, ◌∙◌, arith, append_assoc}
 use Rattle.std.specs.List.{list_any, list_all, take_while}
 use Rattle.std.specs.Option.{option_map_or}
 use Rattle.lib_types.specs.Name.{is_name}
@@ -15,6 +15,7 @@ use Rattle.elf_maker.proofs.Makeable.{Fits, fits, of_text, of_name, and_is}
 use Rattle.elf_maker.proofs.Reading.{AreSmall}
 use Rattle.elf_maker.proofs.Named.{Reads, AreTexts, reads, AreLabelled, found, needed_texts_of, value_after, text_found, needed_found, none_bad, live_texts, small_texts}
 use Rattle.elf_maker.proofs.Steps.{strings_size}
+use Rattle.lib_types.proofs.Bools.{and_false}
 
 -- ---- the texts
 
@@ -145,10 +146,6 @@ pub small_is : (address : ℕ) (d : Dynamic) → address < 2 ^ 32 → length (st
 small_is address d a s =
     rw (all_is address d) (small_texts 1 (tagged d) (last_of address (length (strings d)) d.nodeflib (null ∷ [])) (Finds.labels (finds d)) (omega (arith, strings_size d)) (small_last address (length (strings d)) d.nodeflib a s))
 
-never : (b : Bool) → (b && false) ≡ false
-never true = refl
-never false = refl
-
 -- an empty soname isn't a name
 kept : (o : Option (List ℕ)) → option_map_or is_name o true ≡ true → option_and_then unless_empty o ≡ o
 kept None h = refl
@@ -188,8 +185,8 @@ says address spec h =
     record {
       strtab_there = strtab_is;
       strsz_there = strsz_is;
-      no_lack = rw (strtab_is, strsz_is) (never (list_any has_text (live_of address d)));
-      not_outside = never (list_any has_text (live_of address d));
+      no_lack = rw (strtab_is, strsz_is) (and_false (list_any has_text (live_of address d)));
+      not_outside = and_false (list_any has_text (live_of address d));
       none_bad_there = none_bad 1 texts table [] others e.text_none r;
       good_soname = ap (λ o. option_map_or is_name o true) soname_is ∙ name;
       all_there = rw (soname_is, needed_there, rpath_text, runpath_text, nodeflib_is) refl;

@@ -11,11 +11,9 @@ use Rattle.elf_dynamic.proofs.Live.{while_true}
 use Rattle.elf_maker.specs.Texts.{Tagged, ended, ended_texts, text_entries}
 use Rattle.elf_maker.proofs.Makeable.{HasText}
 use Rattle.elf_maker.proofs.Reading.{AreSmall}
+use Rattle.elf_dynamic.proofs.Nuls.{live}
 
 -- ---- a text in a table
-
-abbrev live : ℕ → Bool
-live b = not (is_nul b)
 
 nul_there : (text rest : List ℕ) (n : ℕ) → length text < n → list_any is_nul (take n (text ++ 0 ∷ rest)) ≡ true
 nul_there text rest zero h = absurd (omega arith)

@@ -1,5 +1,5 @@
 -- The parts of a string table and of the dynamic entries.
-use Rattle.std.proofs.Common.{◌≡◌, ◌≤◌, ◌<◌, ◌*◌, inl, inr, ℕ, suc, ◌+◌, Bool, true, false, List, [], ◌∷◌, ◌++◌, length, drop-cons, drop, get_or, Option, Some, None, is_some, refl, ap, sym, ◌∙◌, arith, append_assoc, length-append}
+use Rattle.std.proofs.Common.{◌≡◌, ◌≤◌, ◌<◌, ◌*◌, inl, inr, ℕ, suc, ◌+◌, List, [], ◌∷◌, ◌++◌, length, drop-cons, drop, get_or, Option, Some, None, is_some, refl, ap, sym, ◌∙◌, arith, append_assoc, length-append}
 use Rattle.std.proofs.lemmas.List.{append-nil, at_drop_all}
 use Rattle.std.proofs.lemmas.Grind.{flat_map-append}
 use Rattle.std.specs.List.{flat_map}
@@ -12,6 +12,7 @@ use Rattle.elf_maker.specs.Fields.{Field, bytes_of}
 use Rattle.elf_maker.specs.Texts.{Tagged, tagged_if, tagged, ended, ended_texts, strings, text_entries}
 use Rattle.elf_maker.specs.Made.{entry_fields, flag_entries, entries}
 use Rattle.elf_maker.specs.Parts.{IsWidth, needed_texts, entries_bytes}
+use Rattle.lib_types.proofs.Bools.{one_if}
 
 -- ---- the string table
 
@@ -68,11 +69,7 @@ strings_size d = omega arith
 
 -- ---- the number of entries
 
-abbrev pub count_if : Bool → ℕ
-count_if true = 1
-count_if false = 0
-
-length_if : (tag : ℕ) (o : Option (List ℕ)) → length (tagged_if tag o) ≡ count_if (is_some o)
+length_if : (tag : ℕ) (o : Option (List ℕ)) → length (tagged_if tag o) ≡ one_if (is_some o)
 length_if tag None = refl
 length_if tag (Some text) = refl
 
@@ -83,7 +80,7 @@ length_needed (text ∷ texts) = ap suc (length_needed texts)
 length_parts : (a b c d : List Tagged) → length (a ++ b ++ c ++ d) ≡ length a + (length b + length c + length d)
 length_parts a b c d = simp length-append (omega arith)
 
-pub tagged_length : (d : Dynamic) → length (tagged d) ≡ length d.needed + (count_if (is_some d.soname) + count_if (is_some d.rpath) + count_if (is_some d.runpath))
+pub tagged_length : (d : Dynamic) → length (tagged d) ≡ length d.needed + (one_if (is_some d.soname) + one_if (is_some d.rpath) + one_if (is_some d.runpath))
 unfolding tagged
 tagged_length d =
     let e = length_parts (needed_texts d.needed) (tagged_if soname d.soname) (tagged_if rpath d.rpath) (tagged_if runpath d.runpath) in

@@ -15,7 +15,7 @@ use Rattle.aux_cache.proofs.Found.{first_of, stamp_of_both}
 use Rattle.aux_cache.specs.Stamps.{put, stamp_of}
 use Rattle.aux_cache.specs.declared.stamps.Stamp.{Stamp}
 use Rattle.elf_dynamic.specs.Begun.{file_keys, key_in}
-use Rattle.string_pool.proofs.Members.{AreSorted, itself}
+use Rattle.string_pool.proofs.Members.{AreSorted}
 use Rattle.file_table.specs.Analyses.{AgreeOn, Analyses, KeepsAnalyses, unread}
 use Rattle.file_table.specs.Table.{analysis_at}
 use Rattle.image_tree.specs.Tree.{Nodes, node_at}
@@ -30,6 +30,7 @@ use Rattle.file_stamps.specs.Info.{info_by, info_in, info_stamps}
 use Rattle.file_stamps.specs.State.{ids_there}
 use Rattle.file_stamps.specs.Stamped.{StampTheSame, id_at, of_stamp, stamp_at, stamp_by, stamp_for, stamps_at, with_stamps}
 use Rattle.file_stamps.specs.declared.files.Files.{Files}
+use Rattle.lib_types.proofs.SameTexts.{itself}
 
 -- appending the same stamps to both lists keeps them alike
 pub more_alike : (xs ys more : List Stamp) → StampTheSame xs ys → StampTheSame (xs ++ more) (ys ++ more)

@@ -23,6 +23,7 @@ use Rattle.file_stamps.proofs.Stamps.{ids_stamped}
 use Rattle.file_stamps.specs.Stamped.{id_at, id_in}
 use Rattle.file_stamps.specs.Opened.{has_id, ids_at, ids_of, keys_without_id, opened_keys, opens, same_id}
 use Rattle.file_stamps.specs.Reading.{opened_by}
+use Rattle.lib_types.proofs.Bools.{one_if}
 
 -- ---- identities
 
@@ -45,10 +46,6 @@ others_there id other (x ∷ ids) differs = by (same_id id x) (same_id other x) 
         let z : true ≡ false = sym both ∙ differs in absurd (cc)
     by true false e f rest = rest
     by false there e f rest = ap (λ b. b || has_id (without id ids) other) f ∙ ap (λ b. there || b) rest
-
-abbrev one_if : Bool → ℕ
-one_if true = 1
-one_if false = 0
 
 -- an identity counts once
 counted_once : (id : Id) (ids : List Id) → distinct_count same_id ids ≡ distinct_count same_id (without id ids) + one_if (has_id ids id)

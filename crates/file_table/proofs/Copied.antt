@@ -1,5 +1,5 @@
 -- A copy of the rows of some paths.
-use Rattle.std.proofs.Common.{◌≡◌, ◌<◌, ◌+◌, ◌||◌, ℕ, zero, suc, Bool, true, false, cond, List, [], ◌∷◌, ◌++◌, drop, get_or, length, take, refl, ap, sym, ◌∙◌, Option, Some, None, Ordering, arith, subst}
+use Rattle.std.proofs.Common.{◌≡◌, ◌<◌, ◌+◌, ◌||◌, ℕ, zero, suc, Bool, true, false, cond, List, [], ◌∷◌, ◌++◌, drop, get_or, length, take, refl, ap, sym, ◌∙◌, Option, Some, None, arith, subst}
 use Rattle.std.proofs.lemmas.Cmp.{nat_list_cmp_total, tied_itself}
 use Rattle.std.proofs.lemmas.List.{append-nil, map-append, take_more}
 use Rattle.std.proofs.lemmas.List.Elements.{filter-append}
@@ -15,12 +15,9 @@ use Rattle.std.specs.Str.{bytes_eq}
 use Rattle.std.specs.declared.cmp.Ordering.TheVariants.{Less, Equal}
 use Rattle.lib_types.proofs.SortedPairs.{by_test}
 use Rattle.lib_types.specs.declared.analysis.Analysis.{Analysis}
-use Rattle.string_pool.proofs.Members.{is_in}
+use Rattle.string_pool.proofs.Members.{is_in, cmp}
 use Rattle.file_table.specs.Analyses.{Analyses, AgreeOn, analysed}
 use Rattle.file_table.specs.Table.{Rows, analysis_at, with_analysis}
-
-abbrev cmp : List ℕ → List ℕ → Ordering
-cmp = slice_cmp nat_cmp
 
 -- the copy has the same ELF information for these paths, and none for other paths
 pub record IsCopied (what : Analyses) (done : List (List ℕ)) (copy : Rows) : Type 0 where
@@ -29,7 +26,7 @@ pub record IsCopied (what : Analyses) (done : List (List ℕ)) (copy : Rows) : T
 
 -- ---- a path after the others
 
-without : (P : List ℕ → Type 0) (xs : List (List ℕ)) (k : List ℕ) (ys : List (List ℕ)) → AllByRecursion P (xs ++ k ∷ ys) → P k
+pub without : (P : List ℕ → Type 0) (xs : List (List ℕ)) (k : List ℕ) (ys : List (List ℕ)) → AllByRecursion P (xs ++ k ∷ ys) → P k
 without P [] k ys a = a.0
 without P (x ∷ xs) k ys a = without P xs k ys a.1
 

@@ -123,7 +123,7 @@ impl Session {
         image_of(alloc, readings)
     }
 
-    /// Makes an image of this tree, as if it had been loaded and edited: the next update writes its manifest. Only the auxiliary cache is
+    /// A session over this tree, as if it had been loaded and edited: the next update writes its manifest. Only the auxiliary cache is
     /// read. After an error the tree is dropped.
     pub fn adopt<D: Disk>(alloc: Global, disk: &mut D, tree: Tree) -> Result<Session, LoadFault>
         ensures adopts { Adopts tree result (D.state disk.old) (D.state disk.new) }

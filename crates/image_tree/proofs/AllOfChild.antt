@@ -22,7 +22,7 @@ use Rattle.image_tree.specs.declared.node.Node.{Node}
 abbrev IsWithin : List ℕ → List ℕ → Type 0
 IsWithin child path = (path ≡ child) ⊎ ((s : List ℕ) × (path ≡ child ++ 47 ∷ s))
 
-after_front : (f r : List ℕ) → drop (length f) (f ++ r) ≡ r
+pub after_front : (f r : List ℕ) → drop (length f) (f ++ r) ≡ r
 after_front [] r = refl
 after_front (x ∷ f) r = after_front f r
 

@@ -1,7 +1,8 @@
 pub mod Above
-mod AllOfChild
+pub mod AllOfChild
 pub mod Below
 pub mod Clear
+pub mod FoundNodes
 mod Fronts
 pub mod Index
 pub mod Kept

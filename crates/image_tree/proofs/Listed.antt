@@ -25,6 +25,7 @@ use Rattle.image_tree.specs.Tree.{Nodes, IsPathSorted, children_of, kind_at, lis
 use Rattle.image_tree.specs.declared.node.Node.{Node}
 use Rattle.image_tree.specs.declared.tree.Kind.{Kind}
 use Rattle.image_tree.specs.declared.tree.Kind.TheVariants.{Absent, Dir, File, Link}
+use Rattle.image_tree.proofs.AllOfChild.{after_front}
 
 -- ---- the first item of each group of adjacent items with one name
 
@@ -101,10 +102,6 @@ name_alone (x ∷ r) = by_test (nat_eq x 47)
     (λ e. let none = name_ended x r e in ap first_name none ∙ sym none)
     (λ e. let step = name_goes_on x r e in ap first_name step ∙ name_goes_on x (first_name r) e ∙ ap (λ n. x ∷ n) (name_alone r) ∙ sym step)
 
-drop_front : (f r : List ℕ) → drop (length f) (f ++ r) ≡ r
-drop_front [] r = refl
-drop_front (x ∷ f) r = drop_front f r
-
 -- ---- entries below a path
 
 module _ (p : List ℕ) where
@@ -148,12 +145,12 @@ module _ (p : List ℕ) where
 
     -- the child's path, and each path below it, has the name of the child
     name_of_child : name_of (child_of q) ≡ name_of q
-    name_of_child = ap first_name (drop_front (folder p) (first_name rest)) ∙ name_alone rest
+    name_of_child = ap first_name (after_front (folder p) (first_name rest)) ∙ name_alone rest
 
     name_of_deeper : (s : List ℕ) → name_of (child_of q ++ 47 ∷ s) ≡ name_of q
     name_of_deeper s =
         ap (λ z. first_name (drop start z)) (append_assoc (folder p) (first_name rest) (47 ∷ s))
-        ∙ ap first_name (drop_front (folder p) (first_name rest ++ 47 ∷ s)) ∙ name_before_slash rest s
+        ∙ ap first_name (after_front (folder p) (first_name rest ++ 47 ∷ s)) ∙ name_before_slash rest s
 
     child_before : ends_by start q ≡ false → path_cmp q (child_of q) ≡ Greater
     child_before ends =

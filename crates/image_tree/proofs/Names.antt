@@ -9,7 +9,7 @@ use Rattle.std.specs.List.{filter, take_while, AllWithin, list_all, position_or_
 use Rattle.std.specs.Str.{bytes_eq}
 use Rattle.std.specs.List.Sorted.{IsPartitionedBy}
 use Rattle.image_tree.proofs.Below.{below_as_later, none_before}
-use Rattle.lib_types.proofs.Bools.{not_true}
+use Rattle.lib_types.proofs.Bools.{not_true, and_true, and_false}
 use Rattle.lib_types.proofs.SortedPairs.{by_test}
 use Rattle.image_tree.specs.Paths.{is_path, is_below, is_slash, root, name_after}
 use Rattle.image_tree.specs.Runs.{IsPathOfChild, child_at, children_after, is_name_end, is_same_child}
@@ -111,14 +111,6 @@ first_none b rest e = ap (λ c. take (cond (not c) (1 + position_or_len is_slash
 
 first_more : (b : ℕ) (rest : List ℕ) → is_slash b ≡ false → before_first is_slash (b ∷ rest) ≡ b ∷ before_first is_slash rest
 first_more b rest e = ap (λ c. take (cond (not c) (1 + position_or_len is_slash rest) 0) (b ∷ rest)) e ∙ rw one-add refl
-
-and_false : (b : Bool) → (b && false) ≡ false
-and_false true = refl
-and_false false = refl
-
-and_true : (b : Bool) → (b && true) ≡ b
-and_true true = refl
-and_true false = refl
 
 -- the first name of the bytes is this name exactly if the bytes begin with it and it ends there
 first_name : (name bytes : List ℕ) → list_all (λ b. not (is_slash b)) name ≡ true

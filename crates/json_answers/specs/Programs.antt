@@ -14,7 +14,7 @@ use Rattle.json_texts.specs.Texts.{bytes_data, optional_data}
 abbrev pub item_data : Item → Data
 item_data i = object (member (codes "name") (bytes_data i.name) (member (codes "path") (optional_data i.path) no_members))
 
--- the items of the listing in order, or null if there is no program
+-- the items of the listing in order, or null where no program is found
 abbrev pub libraries_data : Result Scope ProgramFault → Data
 libraries_data (Ok scope) = array (items_of (map item_data scope.listing))
 libraries_data (Err fault) = null

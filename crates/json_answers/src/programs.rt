@@ -32,7 +32,7 @@ fn item_values(alloc: Global, items: &[Item]) -> Result<Vec<Value>, NoMemory>
     Ok(values)
 }
 
-// The libraries of a program, or null if there is no program.
+// The libraries of a program, or null where no program is found.
 fn libraries_value(alloc: Global, scope: &Result<Scope, ProgramFault>) -> Result<Value, NoMemory>
     ensures { IfOk result (λ v. view v ≡ libraries_data scope.now) }
 {

@@ -12,13 +12,10 @@ use Rattle.tree_face.specs.Known.{IfKnown}
 use Rattle.tree_face.specs.Store.{Contents, StoreState}
 use Rattle.layer_runs.specs.Faults.{of_trees, of_union}
 use Rattle.layer_runs.specs.Image.{MakeImage, OfTrees, ReadsImage}
+use Rattle.layer_trees.proofs.Whole.{anyway}
 
 abbrev failed : UnionFault → Result Nodes UnionFault
 failed fault = Err fault
-
-anyway : (known : Option Contents) → IfKnown known (λ held. Unit {0})
-anyway None = tt
-anyway (Some held) = tt
 
 module _ (keys : List (List ℕ)) (a b : StoreState) where
   pub unread : (fault : LayersFault) → ReadsTrees keys (Err fault) a b → ReadsImage keys (Err (of_trees fault)) a b

@@ -24,7 +24,7 @@ use Rattle.layer_runs.specs.Run.{AfterImage, RunsLayers, tag}
 use Rattle.layer_runs.specs.declared.fault.ImageFault.{ImageFault}
 use Rattle.layer_runs.specs.declared.fault.ImageFault.TheVariants as faults
 
--- ---- arguments that are no command
+-- ---- arguments without a command
 
 image_else : (fault : ImageFault) → of_image fault ≡ Usage → ⊥
 image_else faults.StoreFault e = absurd (cc)

@@ -1,2 +1,2 @@
 mod Texts
-mod Whole
+pub mod Whole

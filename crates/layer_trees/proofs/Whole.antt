@@ -106,7 +106,7 @@ none_left : (known : Option Contents) (trees : List Nodes) → IfKnown known (λ
 none_left None trees = tt
 none_left (Some held) trees = ap HasTrees (append-nil trees)
 
-anyway : (known : Option Contents) → IfKnown known (λ held. Unit {0})
+pub anyway : (known : Option Contents) → IfKnown known (λ held. Unit {0})
 anyway None = tt
 anyway (Some held) = tt
 

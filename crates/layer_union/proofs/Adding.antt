@@ -10,12 +10,13 @@ use Rattle.image_tree.specs.Tree.{Nodes, IsPathSorted, has_no_room, node_at}
 use Rattle.image_tree.specs.declared.node.Node.{Node}
 use Rattle.image_tree.specs.declared.tree.TheConstants.{NODES_MAX}
 use Rattle.layer_union.proofs.Layering.{bad_here, large_here, none_union, sound_more, union_more}
-use Rattle.layer_union.proofs.Trees.{all_put_grows, put_new, sorted_none}
+use Rattle.layer_union.proofs.Trees.{all_put_grows, put_new}
 use Rattle.layer_union.specs.Steps.{IsBadFault, IsFullFault, all_put, applied}
 use Rattle.layer_union.specs.Union.{AreSound, IsBadAt, IsTooLarge, IsUnion}
 use Rattle.layer_union.specs.Whiteouts.{is_bad, is_special}
 use Rattle.layer_union.specs.declared.layers.UnionFault.{UnionFault}
 use Rattle.layer_union.specs.declared.layers.UnionFault.TheVariants.{BadWhiteout, Full}
+use Rattle.image_tree.proofs.AllOfChild.{none_sorted}
 
 none_from : (o : Option Node) → is_some o ≡ false → o ≡ None
 none_from None h = refl
@@ -42,7 +43,7 @@ none_taken (x ∷ xs) = refl
 
 pub first_union : (layers : List Nodes) (t : Nodes) → t ≡ [] → IsUnion (take 0 layers) t
 first_union layers t e =
-    subst (λ (z : List Nodes). IsUnion z t) (sym (none_taken layers)) (none_union t e (subst IsPathSorted (sym e) sorted_none))
+    subst (λ (z : List Nodes). IsUnion z t) (sym (none_taken layers)) (none_union t e (subst IsPathSorted (sym e) none_sorted))
 
 pub first_sound : (layers : List Nodes) → AreSound layers 0
 first_sound layers k l = absurd (omega arith)

@@ -2,12 +2,8 @@
 use Rattle.std.proofs.Common.{◌≡◌, ℕ, suc, ◌<◌, ◌≤◌, Bool, true, false, cond, ◌&&◌, ◌||◌, not, List, [], ◌∷◌, length, get_or, map, filter, refl, sym, ap, ◌∙◌, arith}
 use Rattle.std.proofs.lemmas.Bool.{or_from, or_parts}
 use Rattle.std.specs.List.{dedup_from, list_any}
-use Rattle.lib_types.proofs.Bools.{and_false}
+use Rattle.lib_types.proofs.Bools.{and_false, and_true}
 use Rattle.lib_types.proofs.SortedPairs.{by_test}
-
-and_true : (b : Bool) → (b && true) ≡ b
-and_true true = refl
-and_true false = refl
 
 module _ {X : Type 0} where
   -- two tests that answer alike at each element

@@ -1,17 +1,17 @@
 -- Paths above and below a path.
 use Rattle.std.proofs.Common.{◌≡◌, ℕ, ◌+◌, ◌<◌, ◌≤◌, true, false, cond, ◌&&◌, ◌||◌, nat_eq, List, [], ◌∷◌, ◌++◌, append_assoc, drop, length, length-append, Option, Some, None, unwrap_or, refl, sym, ap, ◌∙◌, ◌⊎◌, inl, inr, arith}
 use Rattle.std.proofs.lemmas.Bool.{eq-eqb}
-use Rattle.std.proofs.lemmas.Bool.Decides.{nat_tests}
 use Rattle.std.specs.List.{starts_with}
 use Rattle.std.specs.Str.{bytes_eq}
 use Rattle.lib_types.proofs.SortedPairs.{by_test}
 use Rattle.lib_types.specs.Name.{slash}
 use Rattle.image_tree.proofs.Below.{below_from, below_is, not_root}
 use Rattle.image_tree.proofs.Rising.{below_rest}
-use Rattle.image_tree.specs.Paths.{folder, is_below, is_path, is_slash, root}
+use Rattle.image_tree.specs.Paths.{folder, is_below, is_path, root}
 use Rattle.layer_union.proofs.Trees.{same_from, same_is}
 use Rattle.layer_union.specs.Steps.{way_up}
 use Rattle.path_walk.specs.Names.{before_last, more_before, parent, unless_empty}
+use Rattle.path_walk.proofs.KindsAt.{cut_last}
 
 pub front : (f r : List ℕ) → starts_with nat_eq (f ++ r) f ≡ true
 front [] r = refl
@@ -40,22 +40,6 @@ more (Some s) = slash ∷ s
 before_slash : (a s : List ℕ) → before_last (a ++ slash ∷ s) ≡ Some (a ++ more (before_last s))
 before_slash [] s = elim (before_last s) as (λ o. more_before slash o ≡ Some (more o)) [ Some f ↦ refl | None ↦ refl ]
 before_slash (x ∷ a) s = ap (more_before x) (before_slash a s)
-
-cut_last : (xs front : List ℕ) → before_last xs ≡ Some front → (n : List ℕ) × (xs ≡ front ++ slash ∷ n)
-cut_last [] front e = absurd (cc)
-cut_last (b ∷ rest) front e = elim (before_last rest) as (λ o. before_last rest ≡ o → more_before b o ≡ Some front → (n : List ℕ) × (b ∷ rest ≡ front ++ slash ∷ n)) [
-  | Some f ↦ λ r h.
-      let more = cut_last rest f r in
-      let same : b ∷ f ≡ front = cc in
-      (more.0, ap (λ z. b ∷ z) more.1 ∙ ap (λ z. z ++ slash ∷ more.0) same)
-  | None ↦ λ r h. by_test (is_slash b)
-      (λ s.
-      let found : Some [] ≡ Some front = sym (ap (λ c. cond c (Some []) None) s) ∙ h in
-      let same : [] ≡ front = cc in
-      let here : b ≡ slash = grind (arith, nat_tests) in
-      (rest, ap (λ c. c ∷ rest) here ∙ ap (λ z. z ++ slash ∷ rest) same))
-      (λ s. let none : None ≡ Some front = sym (ap (λ c. cond c (Some []) None) s) ∙ h in absurd (cc))
-] refl e
 
 -- the root, or what is before the last slash
 parent_cases : (q : List ℕ) → (parent q ≡ root) ⊎ ((n : List ℕ) × (q ≡ parent q ++ slash ∷ n))

@@ -60,10 +60,6 @@ sorted_from : (e : List ℕ × Node) (t : Nodes) → AreAfter e.0 t → IsPathSo
 unfolding IsStrictlySortedBy
 sorted_from e t a s = (a, s)
 
-pub sorted_none : IsPathSorted []
-unfolding IsStrictlySortedBy
-sorted_none = tt
-
 module _ (p : List ℕ × Node → Bool) where
   after_filtered : (q : List ℕ) (t : Nodes) → AreAfter q t → AreAfter q (filter p t)
   after_filtered q [] a = tt

@@ -16,7 +16,6 @@ use Rattle.std.specs.declared.cmp.Ordering.TheVariants.{Less, Equal, Greater}
 use Rattle.hwcap_dirs.specs.declared.kinds.Scope.{Scope}
 use Rattle.aux_cache.specs.declared.stamps.Stamp.{Stamp}
 use Rattle.cache_entries.proofs.Led.{walk_by, walk_same}
-use Rattle.cache_entries.proofs.OneEach.{turned}
 use Rattle.cache_entries.specs.Entries.{AreEntriesOf, entry_order}
 use Rattle.cache_entries.specs.Led.{is_entry_of, path_among}
 use Rattle.cache_entries.specs.Walk.{first_value, in_turn, is_same_abi, is_same_cap}
@@ -35,6 +34,7 @@ use Rattle.image_tree.specs.Tree.{Nodes}
 use Rattle.library_search.specs.Judged.{judged}
 use Rattle.library_search.specs.Ldconfig.{entries_in, places_in, planned_in, info_files, walk_in}
 use Rattle.ldconfig_core.specs.Lookup.{FindsAsSearched}
+use Rattle.lib_types.proofs.SameTexts.{turned}
 
 -- ---- an item and its index
 

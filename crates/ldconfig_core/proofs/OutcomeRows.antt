@@ -10,10 +10,7 @@ use Rattle.library_search.specs.Begun.{after_keys, has_too_many_nodes, lacks_fil
 use Rattle.library_search.specs.Ldconfig.{conf_of, entries_in, links_in, planned_in}
 use Rattle.ldconfig_core.specs.Outcome.{Outcome, Lacking, TooLarge, TooMany, Writes, is_too_long, new_manifest, size_of, update_outcome}
 use Rattle.image_session.specs.Session.{Loaded}
-
-both_false : (a b : Bool) → (a || b) ≡ false → (a ≡ false) × (b ≡ false)
-both_false true b h = absurd (cc)
-both_false false b h = (refl, h)
+use Rattle.lib_types.proofs.Bools.{neither}
 
 -- the content of a file that must be opened isn't held
 pub lacking : (scope : Scope) (held : Contents) (s : Loaded) → lacks_file scope held s.tree s.stamps ≡ true → update_outcome scope held s ≡ Lacking
@@ -46,10 +43,10 @@ writes_held scope held s h =
 
 module _ (scope : Scope) (held : Contents) (s : Loaded) (none : lacks_wanted scope held s.tree s.stamps ≡ false) where
   conf_held : conf_lacks (conf_of scope) held s.tree ≡ false
-  conf_held = (both_false (conf_lacks (conf_of scope) held s.tree) (lacks_one held (wanted_keys scope held s.tree s.stamps)) none).0
+  conf_held = (neither (conf_lacks (conf_of scope) held s.tree) (lacks_one held (wanted_keys scope held s.tree s.stamps)) none).0
 
   wanted_held : lacks_one held (wanted_keys scope held s.tree s.stamps) ≡ false
-  wanted_held = (both_false (conf_lacks (conf_of scope) held s.tree) (lacks_one held (wanted_keys scope held s.tree s.stamps)) none).1
+  wanted_held = (neither (conf_lacks (conf_of scope) held s.tree) (lacks_one held (wanted_keys scope held s.tree s.stamps)) none).1
 
   pub too_many_nodes : (nodes : ℕ) → has_too_many_nodes scope held s.tree s.stamps ≡ true → nodes ≡ nodes_with s.tree (links_in scope held s.tree s.stamps) → update_outcome scope held s ≡ TooLarge nodes 0
   unfolding update_outcome

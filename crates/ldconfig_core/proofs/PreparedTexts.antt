@@ -15,7 +15,7 @@ use Rattle.update_report.specs.Report.{report_text}
 use Rattle.ldconfig_core.proofs.LookedUp.{names_descend, searched}
 use Rattle.ldconfig_core.proofs.OutcomeRows as rows
 use Rattle.library_search.proofs.Reliable.{info_law}
-use Rattle.library_search.proofs.Limits.{over, within}
+use Rattle.library_search.proofs.Limits.{over}
 use Rattle.ldconfig_core.specs.declared.fault.UpdateFault.{UpdateFault}
 use Rattle.ldconfig_core.specs.declared.fault.UpdateFault.TheVariants as faults
 use Rattle.library_search.specs.Begun.{lacks_file, opened_in, update_bytes, update_keys}
@@ -45,6 +45,7 @@ use Rattle.ldconfig_core.specs.Stages.{HasTooMany, IsMadeOf, IsTooLarge, entries
 use Rattle.ldconfig_core.specs.Texts.{AreTexts, AreTextsOf, report_input_with}
 use Rattle.ldconfig_core.specs.Update.{AreUpdateTexts, IfReliableIn, IfReliably, IsAnswer, IsUpdated, update_ending}
 use Rattle.tree_face.proofs.Known.{known_then}
+use Rattle.aux_cache.proofs.Back.{not_below}
 
 -- the number of failed calls rose, or a content isn't held
 cause_of : {risen : Type 0} {a b : Type 0} → (a → b) → risen ⊎ a → risen ⊎ b
@@ -80,7 +81,7 @@ module _ (scope : Scope) (s : Loaded) (found : Found) (tree : Nodes) (alike : Is
       writes : length (entries_of found tree) ≤ ENTRIES_MAX → update_outcome scope held s ≡ Writes
       writes few =
           let size : length (entries_of found tree) ≡ length (entries_in scope held s.tree s.stamps) = ap length is.entries_are in
-          rows.writes scope held s is.none_lacks is.few is.none_after short_new (within ENTRIES_MAX (length (entries_in scope held s.tree s.stamps)) (omega (arith, few, size)))
+          rows.writes scope held s is.none_lacks is.few is.none_after short_new (not_below ENTRIES_MAX (length (entries_in scope held s.tree s.stamps)) (omega (arith, few, size)))
 
     -- the findings in the report are those of the image
     info_is : (entries : List Entry) → report_input_of s.damaged found entries ≡ report_input_with scope held s entries

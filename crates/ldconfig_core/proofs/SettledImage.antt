@@ -35,7 +35,6 @@ use Rattle.library_search.proofs.FilesAgree.{content_same, id_same, key_same, wh
 use Rattle.library_search.proofs.Reliable.{after_in_order, after_lack, info_is, stamps_true, wanted_in_order, wanted_is, wanted_lack}
 use Rattle.library_search.proofs.StampsAgree.{ids_there_same, keys_same}
 use Rattle.ldconfig_core.proofs.OneText.{one_entries}
-use Rattle.library_search.proofs.Limits.{within}
 use Rattle.library_search.specs.Begun.{after_keys, has_too_many_nodes, wanted_keys}
 use Rattle.library_search.specs.Judged.{judged}
 use Rattle.library_search.specs.Ldconfig.{after_in, conf_in, conf_of, entries_in, library_paths, links_in, places_in, planned_in, reached_in, info_files, info_wanted, stamps_in, wanted_in}
@@ -44,6 +43,7 @@ use Rattle.image_session.specs.Session.{Loaded}
 use Rattle.ldconfig_core.specs.Settled.{AreCachesAgain, AreSettled}
 use Rattle.ldconfig_core.specs.Stages.{stored_image}
 use Rattle.ldconfig_core.specs.Texts.{AreTextsOf, UpdateTexts}
+use Rattle.aux_cache.proofs.Back.{not_below}
 
 -- if an update writes, no condition of a refusal holds
 none_holds : (conf wanted nodes files text entries : Bool) (m n size count : ℕ)
@@ -200,7 +200,7 @@ module _ (scope : Scope) (held : Contents) (s : Loaded) (new : Nodes) (alike : I
 
     enough : has_too_many_nodes scope held new made ≡ false
     unfolding ascending
-    enough = ap (λ plan. nat_lt NODES_MAX (nodes_with new plan)) no_links ∙ within NODES_MAX (nodes_with new []) (omega (arith, tree.few))
+    enough = ap (λ plan. nat_lt NODES_MAX (nodes_with new plan)) no_links ∙ not_below NODES_MAX (nodes_with new []) (omega (arith, tree.few))
 
     still_writes : update_outcome scope held s ≡ Writes → update_outcome scope held image ≡ Writes
     unfolding update_outcome

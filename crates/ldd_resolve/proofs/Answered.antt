@@ -19,7 +19,8 @@ use Rattle.rpath_search.specs.Searching.{is_among}
 use Rattle.ldd_resolve.specs.Listing.{Loaded, Record, Request, is_called, is_missing, item, loaded, named, names_by, needed_in, owner_of, places_of, requests, requests_of, soname_in, with_missing}
 use Rattle.ldd_resolve.specs.Loading.{AddsFound, AddsName, IsFoundIn, Matches, with_last_name}
 use Rattle.ldd_resolve.specs.Resolving.{member_of, members_of}
-use Rattle.ldd_resolve.proofs.MatchesKept.{among_at, and_false, and_true, called_there, drop_next, drop_one, linked_on, named_at, or_false, same_by, same_chain, same_needed, same_path, same_real, same_requests}
+use Rattle.ldd_resolve.proofs.MatchesKept.{among_at, called_there, drop_next, drop_one, linked_on, named_at, or_false, same_by, same_chain, same_needed, same_path, same_real, same_requests}
+use Rattle.lib_types.proofs.Bools.{and_true, and_false}
 
 module _ (env : Env) (r r2 : Record) (s new : Loading) (n : ℕ) (q : Request) (rest : List Request) (matching : Matches env r s n (q ∷ rest)) (next : r2.answered ≡ suc r.answered) where
   -- the name isn't found

@@ -16,20 +16,13 @@ use Rattle.rpath_search.specs.Searching.{is_among}
 use Rattle.ldd_resolve.specs.Listing.{Loaded, is_called, named, places_of, requests}
 use Rattle.ldd_resolve.specs.Loading.{with_last_name}
 use Rattle.ldd_resolve.specs.Resolving.{member_of}
+use Rattle.lib_types.proofs.Bools.{or_assoc}
 
 -- ---- Booleans
 
 pub or_false : (b : Bool) → (b || false) ≡ b
 or_false true = refl
 or_false false = refl
-
-pub and_false : (b : Bool) → (b && false) ≡ false
-and_false true = refl
-and_false false = refl
-
-pub and_true : (b : Bool) → (b && true) ≡ b
-and_true true = refl
-and_true false = refl
 
 or_true : (b : Bool) → (b || true) ≡ true
 or_true true = refl
@@ -42,10 +35,6 @@ or_first false b e = refl
 pub or_second : (a b : Bool) → (a || b) ≡ false → b ≡ false
 or_second true b e = absurd (cc)
 or_second false b e = e
-
-pub or_assoc : (a b c : Bool) → ((a || b) || c) ≡ (a || (b || c))
-or_assoc true b c = refl
-or_assoc false b c = refl
 
 -- ---- texts
 

@@ -1,7 +1,7 @@
 pub mod Asked
 pub mod CommandLine
 mod Files
-mod Items
+pub mod Items
 mod Looking
 mod Uses
 mod Visiting

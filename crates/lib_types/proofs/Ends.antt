@@ -4,11 +4,11 @@ use Rattle.std.proofs.lemmas.List.{take_more, take_all, drop_all, reverse-append
 use Rattle.std.proofs.lemmas.Bool.{ltb-false}
 use Rattle.std.specs.List.{before_first, position, position_or_len, prefix_len, suffix_len}
 
-some_of : (b : Bool) (x y : ℕ) → cond b (Some x) None ≡ Some y → x ≡ y
+pub some_of : (b : Bool) (x y : ℕ) → cond b (Some x) None ≡ Some y → x ≡ y
 some_of true x y e = cc
 some_of false x y e = absurd (cc)
 
-none_of : (b : Bool) (x : ℕ) → cond b (Some x) None ≡ None → b ≡ false
+pub none_of : (b : Bool) (x : ℕ) → cond b (Some x) None ≡ None → b ≡ false
 none_of true x e = absurd (cc)
 none_of false x e = refl
 

@@ -1,6 +1,7 @@
 pub mod Abis
 pub mod Bools
 pub mod ByteOrder
+pub mod Counts
 pub mod Ends
 pub mod EqualFront
 pub mod Fields
@@ -10,6 +11,8 @@ pub mod OneSize
 pub mod Parting
 pub mod Plain
 pub mod Prefixes
+pub mod Results
 pub mod SameBytes
+pub mod SameTexts
 pub mod SortedPairs
 pub mod Utf8

@@ -18,7 +18,7 @@ use Rattle.path_walk.specs.declared.walk.WalkFault.{WalkFault}
 use Rattle.image_tree.specs.Paths.{join}
 use Rattle.image_tree.specs.Tree.{Nodes, IsTree, children_of, kind_at, listing_of, node_at}
 use Rattle.image_tree.specs.declared.node.Node.{Node}
-use Rattle.string_pool.proofs.Members.{each_meets, is_in, itself}
+use Rattle.string_pool.proofs.Members.{each_meets, is_in}
 use Rattle.library_files.proofs.FolderRows.{files_once, reals}
 use Rattle.string_pool.proofs.InByteOrder.{in_ascending}
 use Rattle.file_table.specs.Analyses.{Analyses, unread}
@@ -30,6 +30,7 @@ use Rattle.library_files.specs.Link.{FollowedLink}
 use Rattle.library_files.specs.Search.{file_in, files_at, files_of, folder_links, followed, followed_by, link_with, reached, wanted}
 use Rattle.image_tree.specs.declared.node.Node.TheVariants as node
 use Rattle.library_files.proofs.Children as kinds
+use Rattle.lib_types.proofs.SameTexts.{itself}
 
 -- ---- one path
 

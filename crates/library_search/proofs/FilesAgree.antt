@@ -32,6 +32,7 @@ use Rattle.image_tree.specs.Tree.{Nodes, node_at}
 use Rattle.update_report.proofs.Picked.{in_table, same_picked}
 use Rattle.update_report.proofs.SkipsOfFiles.{skips_agree}
 use Rattle.update_report.specs.Skips.{skip_at}
+use Rattle.planned_tree.proofs.Alike.{key_of}
 
 -- ---- the order in which the paths are read
 
@@ -48,13 +49,6 @@ reached_sorted t places = ascending_sorted _
 -- each path has the same file in both trees
 abbrev pub HaveSameFiles : Nodes → Nodes → Type 0
 HaveSameFiles t new = (path : List ℕ) → file_in (node_at new path) ≡ file_in (node_at t path)
-
--- the parts of a file
-key_of : (o : Option Node) → key_in o ≡ option_map (λ file. file.0) (file_in o)
-key_of None = refl
-key_of (Some node.Dir) = refl
-key_of (Some (node.File key id)) = refl
-key_of (Some (node.Link target)) = refl
 
 id_of : (o : Option Node) → id_in o ≡ option_and_then (λ file. file.1) (file_in o)
 id_of None = refl

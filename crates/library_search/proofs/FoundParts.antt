@@ -35,7 +35,7 @@ use Rattle.image_tree.specs.Tree.{Nodes}
 use Rattle.library_search.proofs.FilesAgree.{HaveSameFiles, id_by, key_by, reached_sorted, rows_only, skips_are, unread_are}
 use Rattle.library_search.proofs.Judged.{judged_same}
 use Rattle.library_search.proofs.KeysBegun.{keys_counted, then_keys}
-use Rattle.library_search.proofs.Limits.{over, within}
+use Rattle.library_search.proofs.Limits.{over}
 use Rattle.library_search.proofs.InfoBoth.{info_after, info_front, stamps_agree}
 use Rattle.library_search.proofs.StampsAgree.{keys_alike, keys_same}
 use Rattle.library_search.specs.After.{opened_after}
@@ -49,6 +49,7 @@ use Rattle.library_search.specs.Judged.{judged}
 use Rattle.library_search.specs.Found.{HasTooManyNodes, IsFound, IsSearched}
 use Rattle.library_search.specs.Stages.{HasFollowed, IsPlannedFor, IsSearchOf, info_found, opened_planned, planned_by}
 use Rattle.update_report.specs.Skips.{skip_at}
+use Rattle.aux_cache.proofs.Back.{not_below}
 
 module _ (scope : Scope) (held : Contents) (t : Nodes) (loaded : List Stamp) (search : Search) (s : IsSearched scope held t loaded search) where
   abbrev table : Analyses
@@ -102,7 +103,7 @@ module _ (scope : Scope) (held : Contents) (t : Nodes) (loaded : List Stamp) (se
   tree_is = ap (with_links t) links_are
 
   pub few_nodes : nodes_with t (links (analysis_at search.files.table) t search.dirs.places) ≤ NODES_MAX → has_too_many_nodes scope held t loaded ≡ false
-  few_nodes few = rw (← links_are) (within NODES_MAX (nodes_with t (links table t search.dirs.places)) few)
+  few_nodes few = rw (← links_are) (not_below NODES_MAX (nodes_with t (links table t search.dirs.places)) few)
 
   pub many_nodes : (nodes : ℕ) → nodes ≡ nodes_with t (links (analysis_at search.files.table) t search.dirs.places) → NODES_MAX < nodes → has_too_many_nodes scope held t loaded ≡ true
   many_nodes nodes e more = rw (← links_are) (over NODES_MAX (nodes_with t (links table t search.dirs.places)) (omega (arith, more, e)))

@@ -7,7 +7,7 @@ use Rattle.std.specs.Option.{option_and_then, option_map, option_or}
 use Rattle.std.specs.Str.{bytes_eq}
 use Rattle.aux_cache.specs.Stamps.{stamp_of}
 use Rattle.aux_cache.specs.declared.stamps.Stamp.{Stamp}
-use Rattle.string_pool.proofs.Members.{is_in, itself}
+use Rattle.string_pool.proofs.Members.{is_in}
 use Rattle.file_table.specs.Analyses.{AgreeOn, Analyses}
 use Rattle.image_tree.specs.Tree.{Nodes}
 use Rattle.planned_tree.specs.Search.{IsSearchedAlike}
@@ -18,6 +18,7 @@ use Rattle.file_stamps.specs.Stamped.{StampTheSame, id_at, of_stamp, stamp_at, s
 use Rattle.tree_face.specs.Store.{Contents}
 use Rattle.library_search.proofs.FilesAgree.{id_same, what_same}
 use Rattle.library_search.proofs.StampsAgree.{stamps_same}
+use Rattle.lib_types.proofs.SameTexts.{itself}
 
 -- equal analyses give equal stamps
 pub stamps_agree : (t u : Nodes) → ((path : List ℕ) → id_at u path ≡ id_at t path) → (what new : Analyses) (paths : List (List ℕ)) → AgreeOn paths what new → info_stamps u new paths ≡ info_stamps t what paths

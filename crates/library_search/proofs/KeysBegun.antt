@@ -16,6 +16,7 @@ use Rattle.tree_face.specs.StoreUse.{Ending, Complete, ReadsFiles}
 use Rattle.image_tree.specs.Tree.{Nodes}
 use Rattle.library_search.specs.Begun.{after_keys, has_too_many_nodes, lacks_file, lacks_wanted, opened_in, search_bytes, search_keys, update_bytes, update_keys, wanted_keys}
 use Rattle.library_search.specs.Ldconfig.{conf_of}
+use Rattle.lib_types.proofs.Bools.{neither}
 
 lacking_wanted : (scope : Scope) (held : Contents) (t : Nodes) (loaded : List Stamp) → lacks_wanted scope held t loaded ≡ true → lacks_file scope held t loaded ≡ true
 unfolding lacks_file
@@ -98,10 +99,6 @@ module _ (scope : Scope) (t : Nodes) (loaded : List Stamp) (e : Ending) where
   update_all (Some held) keys a b c none are first next = all_held held keys a b c none are first next
 
 -- ---- the number of opened files
-
-neither : (a b : Bool) → (a || b) ≡ false → (a ≡ false) × (b ≡ false)
-neither true b h = absurd (cc)
-neither false b h = (refl, h)
 
 all_begun : (held : Contents) (keys : List (List ℕ)) → lacks_one held keys ≡ false → until_lacking held keys ≡ keys
 all_begun held [] none = refl

@@ -9,7 +9,7 @@ pub mod KeysBegun
 pub mod KnownParts
 pub mod Limits
 pub mod Named
-mod Opened
+pub mod Opened
 mod Replaced
 mod Results
 mod Rows

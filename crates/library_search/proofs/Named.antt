@@ -33,6 +33,7 @@ use Rattle.library_search.specs.Judged.{judged, judged_all, judged_by}
 use Rattle.path_walk.specs.Names.{last}
 use Rattle.searchable_names.specs.Searchable.{is_searchable}
 use Rattle.tree_face.specs.Store.{Contents}
+use Rattle.lib_types.proofs.Bools.{not_false}
 
 -- ---- what a file is
 
@@ -53,10 +54,6 @@ first_false [] h = refl
 first_false (x ∷ xs) h = by_test x.0
     (λ e. let z : Some x.1 ≡ None = sym (ap (λ b. option_map (λ (s : Sentence). s.1) (cond b (Some x) (find (λ s. s.0) xs))) e) ∙ h in absurd (cc))
     (λ e. e)
-
-not_false : (b : Bool) → not b ≡ false → b ≡ true
-not_false true h = refl
-not_false false h = absurd (cc)
 
 soname_named : (soname : Option (List ℕ)) → option_map_or is_name soname true ≡ true → is_soname soname ≡ true
 soname_named None h = refl

@@ -21,7 +21,7 @@ use Rattle.tree_face.specs.Known.{IfKnown}
 use Rattle.tree_face.specs.Store.{Contents, StoreState}
 use Rattle.tree_face.specs.StoreUse.{Complete, GaveUp}
 use Rattle.library_search.proofs.Judged.{judged_agrees}
-use Rattle.library_search.proofs.Limits.{over, within}
+use Rattle.library_search.proofs.Limits.{over}
 use Rattle.library_search.specs.After.{info_after, made_after, opened_after, unread_after}
 use Rattle.library_search.specs.Faults.{find_ending, of_apply, of_reading}
 use Rattle.library_search.specs.Judged.{judged}
@@ -30,6 +30,7 @@ use Rattle.library_search.specs.declared.fault.FindFault.{FindFault}
 use Rattle.library_search.specs.declared.fault.FindFault.TheVariants as finding
 use Rattle.library_search.specs.declared.finding.Found.{Found}
 use Rattle.library_search.specs.declared.search.Search.{Search}
+use Rattle.aux_cache.proofs.Back.{not_below}
 
 pub same_ending : (A B : Type 0) (fault : FindFault) → find_ending {A = A} (Err fault) ≡ find_ending {A = B} (Err fault)
 same_ending A B finding.StoreFault = refl
@@ -54,7 +55,7 @@ module _ (loaded : List Stamp) (search : Search) (t : Nodes) where
       → opened_after loaded search.files new search.dirs ≡ opened_planned loaded search t
   follow_keys new is few =
       ap (λ n. opened_after loaded search.files n search.dirs) is
-      ∙ ap (λ b. if b then [] else opened_after loaded search.files (with_links t (planned_by search t)) search.dirs) (sym (within NODES_MAX (nodes_with t (planned_by search t)) few))
+      ∙ ap (λ b. if b then [] else opened_after loaded search.files (with_links t (planned_by search t)) search.dirs) (sym (not_below NODES_MAX (nodes_with t (planned_by search t)) few))
 
   -- the links don't fit
   no_follow : (nodes : ℕ) → (nodes ≡ nodes_with t (planned_by search t)) × (NODES_MAX < nodes) → [] ≡ opened_planned loaded search t

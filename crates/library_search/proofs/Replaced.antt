@@ -12,9 +12,10 @@ use Rattle.lib_types.proofs.SortedPairs.{by_test}
 use Rattle.lib_types.specs.declared.analysis.Analysis.{Analysis}
 use Rattle.lib_types.specs.declared.analysis.Analysis.TheVariants.{Lib, Not}
 use Rattle.lib_types.specs.declared.analysis.Defect.TheVariants.{Unsearchable}
-use Rattle.string_pool.proofs.Members.{is_in, itself}
+use Rattle.string_pool.proofs.Members.{is_in}
 use Rattle.library_search.specs.Judged.{can_search, judged_all, judged_by}
 use Rattle.library_search.specs.Unsearchable.{is_unsearchable, unsearchable}
+use Rattle.lib_types.proofs.SameTexts.{itself}
 
 -- ---- one path after another
 

@@ -1,11 +1,10 @@
 -- The paths that a pattern expands to, while the directory is looked at.
-use Rattle.std.proofs.Common.{◌≡◌, ◌&&◌, ℕ, Bool, true, false, not, List, [], ◌∷◌, ◌++◌, append_assoc, append-nil, filter, flat_map, map, refl, ap, sym, subst, ◌∙◌, Option, Some, None}
-use Rattle.lib_types.proofs.SortedPairs.{by_test}
+use Rattle.std.proofs.Common.{◌≡◌, ℕ, true, false, not, List, [], ◌∷◌, ◌++◌, append_assoc, append-nil, filter, flat_map, map, refl, ap, sym, subst, ◌∙◌, Option, Some, None}
 use Rattle.lib_types.specs.Name.{slash}
 use Rattle.conf_patterns.specs.Finding.{matches_of}
 use Rattle.conf_patterns.specs.Glob.{glob_match}
 use Rattle.conf_patterns.specs.Patterns.{base_of, chosen_in, components_of, go_on, is_library_link, is_wild, place_at, texts_by}
-use Rattle.conf_views.proofs.Patterns.{chosen_seen, place_seen}
+use Rattle.conf_views.proofs.Patterns.{chosen_seen, place_seen, both_tests}
 use Rattle.conf_views.specs.Patterns.{choices_listed, choices_looked, dirs_in, listed_in, places_looked, results_listed, results_looked, texts_listed, texts_looked}
 use Rattle.image_tree.specs.Tree.{Nodes, children_of}
 use Rattle.path_walk.specs.declared.walk.Mode.TheVariants.{Plain}
@@ -17,12 +16,6 @@ use Rattle.looked_tree.proofs.Loads.{Splits, are_now_seen, begins, both, goes_on
 use Rattle.looked_tree.specs.Looked.{HasLooked, IsLookedOf, Loads, LoadsPart, Looked}
 
 -- ---- the names that a component matches
-
-both_tests : {X : Type 0} (p q : X → Bool) (xs : List X) → filter (λ x. p x && q x) xs ≡ filter q (filter p xs)
-both_tests p q [] = refl
-both_tests p q (x ∷ xs) = by_test (p x)
-    (λ e. by_test (q x) (λ f. rw (e, f) (ap (λ z. x ∷ z) (both_tests p q xs))) (λ f. rw (e, f) (both_tests p q xs)))
-    (λ e. rw e (both_tests p q xs))
 
 module _ (component text : List ℕ) where
   abbrev Matches : FolderState → FolderState → Looked → Looked → Type 0

@@ -1,8 +1,8 @@
 -- The search of a part finds what the search of the tree finds.
-use Rattle.std.proofs.Common.{◌≡◌, ◌∙◌, ℕ, true, ◌||◌, List, [], ◌∷◌, ap, refl, sym, subst, Option, Some, None, Result, Ok, Err}
+use Rattle.std.proofs.Common.{◌≡◌, ◌∙◌, ℕ, true, ◌||◌, List, [], ◌∷◌, ap, refl, sym, subst, Option, Some, None}
 use Rattle.std.proofs.lemmas.Bool.{and_from, and_parts}
 use Rattle.std.proofs.lemmas.Slice.Eq.{bytes_eq-Decides}
-use Rattle.std.specs.Prelude.{IfOk, map}
+use Rattle.std.specs.Prelude.{map}
 use Rattle.std.specs.Str.{bytes_eq}
 use Rattle.aux_cache.specs.Stamps.{AreRecordable}
 use Rattle.aux_cache.specs.declared.stamps.Stamp.{Stamp}
@@ -277,7 +277,3 @@ module _ (scope : Scope) (loaded : List Stamp) (recordable : AreRecordable loade
       (subst (λ (k : Option Contents). IfKnown k (λ held. HasRead scope held y.seen.part loaded s.search)) sees.held s.read)
       (subst (λ (k : Option Contents). IfKnown k (λ held. HasFollowed scope held loaded s.search found tree)) sees.held s.followed)
       (subst (λ o. IfKnown o Adds) sees.looks.reads.keeps.contents adds.adds.known)
-
-pub ok_then : {A E : Type 0} (P Q : A → Type 0) (r : Result A E) → ((a : A) → P a → Q a) → IfOk r P → IfOk r Q
-ok_then P Q (Ok a) f p = f a p
-ok_then P Q (Err e) f p = tt

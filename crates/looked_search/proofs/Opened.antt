@@ -19,7 +19,6 @@ use Rattle.library_search.proofs.Endings.{search_failed}
 use Rattle.library_search.proofs.KeysBegun.{conf_part, search_all}
 use Rattle.library_search.proofs.KnownParts as known_parts
 use Rattle.library_search.proofs.FoundParts as parts
-use Rattle.library_search.proofs.Limits.{within}
 use Rattle.library_search.proofs.SearchParts.{all_conf, searched, wanted_keys_are}
 use Rattle.library_search.specs.Begun.{after_keys, has_too_many_nodes, lacks_file, lacks_some, lacks_wanted, opened_wanted, search_bytes, search_keys, update_bytes, update_keys, wanted_keys}
 use Rattle.library_search.specs.Faults.{find_ending, is_store_fault}
@@ -64,6 +63,7 @@ use Rattle.looked_search.specs.declared.fault.SearchFault.TheVariants as faults
 use Rattle.looked_conf.specs.Conf.{look_ending_by}
 use Rattle.looked_conf.specs.declared.fault.LookFault.{LookFault}
 use Rattle.looked_conf.specs.declared.fault.LookFault.TheVariants as looks
+use Rattle.aux_cache.proofs.Back.{not_below}
 
 -- ---- any content that isn't held
 
@@ -108,7 +108,7 @@ module _ (scope : Scope) (held : Contents) (t part : Nodes) (loaded : List Stamp
       omega (arith, here, small, one, two)
 
   few_by : (n m : ℕ) → n ≤ m → nat_lt NODES_MAX m ≡ false → nat_lt NODES_MAX n ≡ false
-  few_by n m less few = within NODES_MAX n (let most : m ≤ NODES_MAX = grind (arith, nat_tests, few) in omega (arith, less, most))
+  few_by n m less few = not_below NODES_MAX n (let most : m ≤ NODES_MAX = grind (arith, nat_tests, few) in omega (arith, less, most))
 
   pub part_fits : Fits scope held t loaded → Fits scope held part loaded
   part_fits fits = few_by (nodes_with part (links_in scope held part loaded)) (nodes_with t (links_in scope held t loaded)) fewer fits
@@ -384,8 +384,3 @@ conf_then scope folder l a b known any = record {
   known = known_then folder.contents _ _ (λ c f is. reads_all _ _ a b _ (f is)) known;
   any = reads_all None None a b (LacksAny a.held) any;
 }
-
-pub one_ending : (A B : Type 0) (fault : FindFault) → find_ending {A = A} (Err fault) ≡ find_ending {A = B} (Err fault)
-one_ending A B finding.StoreFault = refl
-one_ending A B (finding.TooLarge nodes) = refl
-one_ending A B finding.NoMemory = refl

@@ -24,8 +24,9 @@ use Rattle.place_libraries.proofs.Named.{best_meets, has_names, libraries_named}
 use Rattle.place_libraries.specs.Best.{best, is_own, sonames}
 use Rattle.place_libraries.specs.Libraries.{libraries_in, library_at, library_by, library_in}
 use Rattle.place_libraries.specs.Library.{Library}
-use Rattle.string_pool.proofs.Members.{is_in, itself}
+use Rattle.string_pool.proofs.Members.{is_in}
 use Rattle.looked_search.specs.Sonames.{odd_soname, odd_sonames, soname_of, unless_library}
+use Rattle.lib_types.proofs.SameTexts.{itself}
 
 -- ---- the winners, if a test passes for each library
 

@@ -1,18 +1,15 @@
 -- What is looked at in sequence.
 use Rattle.std.proofs.Common.{◌≡◌, ◌<◌, ◌+◌, ℕ, List, [], ◌∷◌, ◌++◌, append-nil, length, drop, get_or, add-one, drop-cons, flat_map, map, refl, ap, sym, subst, ◌∙◌, Option, Some, None, Result, Ok, Err}
-use Rattle.std.proofs.lemmas.List.Sums.{fold-append}
 use Rattle.std.specs.Map.{keys_of}
 use Rattle.std.specs.Result.{OnOk}
-use Rattle.std.specs.Str.{bytes_eq}
-use Rattle.indexmap.specs.IndexSet.{insert_key}
 use Rattle.image_tree.specs.Paths.{join}
 use Rattle.image_tree.specs.Tree.{Nodes, kind_at}
 use Rattle.root_folder.specs.Folder.{FolderContent, FolderState}
 use Rattle.root_tree.specs.ReadTree.{ReadsOn}
-use Rattle.seen_tree.proofs.Looked.{now_seen}
+use Rattle.seen_tree.proofs.Looked.{now_seen, two_paths, two_dirs}
 use Rattle.seen_tree.proofs.Same.{kind_seen}
 use Rattle.seen_tree.specs.Part.{AreSeen, KeepsNodes}
-use Rattle.seen_tree.specs.Seen.{HasSeen, IsSeenOf, Lists, LooksMore, Seen, Sees, with_dirs, with_path, with_paths}
+use Rattle.seen_tree.specs.Seen.{HasSeen, IsSeenOf, Lists, LooksMore, Seen, Sees, with_dirs, with_paths}
 use Rattle.tree_face.proofs.Known.{known_then}
 use Rattle.tree_face.specs.Known.{IfKnown}
 use Rattle.looked_tree.proofs.Calls.{no_lists}
@@ -80,12 +77,6 @@ one_path x path a b s new lists sees looks kept reads = record {
 }
 
 -- ---- one reading after another
-
-two_paths : (looked xs ys : List (List ℕ)) → with_paths looked (xs ++ ys) ≡ with_paths (with_paths looked xs) ys
-two_paths looked xs ys = fold-append with_path looked xs ys
-
-two_dirs : (dirs xs ys : List (List ℕ)) → with_dirs dirs (xs ++ ys) ≡ with_dirs (with_dirs dirs xs) ys
-two_dirs dirs xs ys = fold-append (insert_key bytes_eq) dirs xs ys
 
 -- of the paths that are left, the first ones are these
 abbrev pub Splits : Looked → Looked → (left more rest dirs listed rest_dirs : Asked) → FolderContent → Type 0

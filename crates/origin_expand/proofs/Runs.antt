@@ -3,14 +3,7 @@ use Rattle.std.proofs.Common.{◌≡◌, ◌+◌, ℕ, Bool, true, false, not, c
 use Rattle.std.proofs.lemmas.Bool.{ltb-false}
 use Rattle.std.proofs.lemmas.List.{take_all}
 use Rattle.std.specs.List.{position, position_or_len, prefix_len, take_while}
-
-some_of : (b : Bool) (x y : ℕ) → cond b (Some x) None ≡ Some y → x ≡ y
-some_of true x y e = cc
-some_of false x y e = absurd (cc)
-
-none_of : (b : Bool) (x : ℕ) → cond b (Some x) None ≡ None → b ≡ false
-none_of true x e = absurd (cc)
-none_of false x e = refl
+use Rattle.lib_types.proofs.Ends.{some_of, none_of}
 
 module _ (p : ℕ → Bool) where
   abbrev outside : ℕ → Bool

@@ -5,7 +5,7 @@ use Rattle.std.proofs.lemmas.Bool.{and_parts, or_left, or_parts, or_right}
 use Rattle.std.proofs.lemmas.List.Elements.{filter_passes}
 use Rattle.std.proofs.lemmas.List.Sums.{list_all-from_AllPass}
 use Rattle.std.proofs.lemmas.Slice.Eq.{bytes_eq-Decides}
-use Rattle.std.specs.List.{list_all, list_any}
+use Rattle.std.specs.List.{list_all}
 use Rattle.std.specs.Str.{bytes_eq}
 use Rattle.hwcap_dirs.proofs.Reals.{all_left}
 use Rattle.lib_types.proofs.SortedPairs.{by_test, sorted_put}
@@ -17,16 +17,13 @@ use Rattle.image_tree.specs.declared.node.Node.TheVariants as node
 use Rattle.library_files.specs.Places.{is_link_to}
 use Rattle.link_plan.specs.declared.kinds.Planned.{Planned}
 use Rattle.planned_tree.proofs.Alike.{IsAlike}
-use Rattle.planned_tree.proofs.Planned.{planned_alike}
+use Rattle.planned_tree.proofs.Planned.{planned_alike, is_put}
 use Rattle.soname_links.proofs.Rooms.{HaveRoom}
 use Rattle.soname_links.specs.Plan.{with_link, with_links}
 use Rattle.partial_links.proofs.SameNodes.{same_nodes}
 use Rattle.partial_links.specs.Partial.{HasPart, IsOfPlan, is_made, missing}
 
 -- ---- links
-
-abbrev is_put : List Planned → List ℕ → Bool
-is_put plan q = list_any (λ planned. bytes_eq q planned.path) plan
 
 linked : (o : Option Node) (file : List ℕ) → is_link_to file o ≡ true → o ≡ Some (node.Link file)
 linked None file h = absurd (cc)

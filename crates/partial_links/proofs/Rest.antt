@@ -9,7 +9,7 @@ use Rattle.std.specs.Str.{bytes_eq}
 use Rattle.conf_patterns.specs.Patterns.{is_link}
 use Rattle.hwcap_dirs.specs.Places.{are_dirs, is_dir}
 use Rattle.hwcap_dirs.specs.declared.kinds.Place.{Place}
-use Rattle.lib_types.proofs.Bools.{and_false}
+use Rattle.lib_types.proofs.Bools.{and_false, not_false}
 use Rattle.name_order.specs.LibraryName.{is_library_name}
 use Rattle.path_walk.specs.Files.{is_file}
 use Rattle.image_tree.specs.Paths.{join}
@@ -39,10 +39,6 @@ use Rattle.string_pool.proofs.Members.{left_out}
 use Rattle.string_pool.specs.Order.{ascending}
 use Rattle.partial_links.proofs.Parts.{part_alike, rest_put}
 use Rattle.partial_links.specs.Partial.{HasPart, IsOfPlan, PlansRest, is_made, missing}
-
-not_false : (b : Bool) → not b ≡ false → b ≡ true
-not_false true h = refl
-not_false false h = absurd (cc)
 
 free_no_file : (k : Kind) → is_taken k ≡ false → is_file k ≡ false
 free_no_file kinds.Link h = refl

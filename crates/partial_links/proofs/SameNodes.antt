@@ -1,6 +1,5 @@
 -- Two sorted lists of nodes with the same node at each path are one.
 use Rattle.std.proofs.Common.{◌≡◌, ℕ, cond, List, [], ◌∷◌, refl, ap, sym, ◌∙◌, Some, None}
-use Rattle.std.proofs.lemmas.Cmp.{tied_itself}
 use Rattle.std.proofs.lemmas.Map.Keys.{sorted_head, sorted_tail}
 use Rattle.std.specs.BTreeMap.{is_at}
 use Rattle.std.specs.Cmp.{Equal-is}
@@ -15,9 +14,7 @@ use Rattle.image_tree.proofs.Order.{path_total}
 use Rattle.image_tree.specs.Paths.{path_cmp}
 use Rattle.image_tree.specs.Tree.{Nodes, IsPathSorted, node_at}
 use Rattle.image_tree.specs.declared.node.Node.{Node}
-
-found_here : (e : List ℕ × Node) (t : Nodes) → node_at (e ∷ t) e.0 ≡ Some e.1
-found_here e t = ap (λ r. cond (is_eq r) (Some e.1) (node_at t e.0)) (tied_itself path_total e.0)
+use Rattle.image_tree.proofs.FoundNodes.{found_here, by_some}
 
 -- nothing is at a path that comes before all
 none_before : (p : List ℕ) (t : Nodes) → AllByRecursion (λ k. path_cmp p k ≡ Less) (keys_of t) → node_at t p ≡ None
@@ -26,9 +23,6 @@ none_before p (e ∷ t) all = ap (λ r. cond (is_eq r) (Some e.1) (node_at t p))
 
 none_elsewhere : (e : List ℕ × Node) (t : Nodes) (q : List ℕ) → IsPathSorted (e ∷ t) → path_cmp q e.0 ≡ Less → node_at (e ∷ t) q ≡ None
 none_elsewhere e t q sorted less = none_before q (e ∷ t) (less, all_below path_total q e.0 (keys_of t) less (sorted_head path_cmp e.0 (keys_of t) sorted))
-
-some_same : {a b : Node} → Some a ≡ Some b → a ≡ b
-some_same e = cc
 
 some_none : {a : Node} → Some a ≡ None → ⊥
 some_none e = cc
@@ -44,7 +38,7 @@ same_nodes (x ∷ a) (y ∷ b) s r same = by_ordering (path_cmp x.0 y.0)
     (λ less. absurd (some_none (sym (found_here x a) ∙ same x.0 ∙ none_elsewhere y b x.0 r less)))
     (λ tied.
     let key : x.0 ≡ y.0 = exact x.0 y.0 tied in
-    let node : x.1 ≡ y.1 = some_same (sym (found_here x a) ∙ same x.0 ∙ ap (node_at (y ∷ b)) key ∙ found_here y b) in
+    let node : x.1 ≡ y.1 = by_some (sym (found_here x a) ∙ same x.0 ∙ ap (node_at (y ∷ b)) key ∙ found_here y b) in
     ap (λ z. z ∷ a) (pair x y key node)
     ∙ ap (λ z. y ∷ z) (same_nodes a b (sorted_tail path_cmp x.0 (keys_of a) s) (sorted_tail path_cmp y.0 (keys_of b) r) (rest key)))
     (λ more. absurd (some_none (sym (found_here y b) ∙ sym (same y.0) ∙ none_elsewhere x a y.0 s (flipped path_total x.0 y.0 Greater more))))

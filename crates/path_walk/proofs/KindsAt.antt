@@ -104,7 +104,7 @@ module _ (t : Nodes) (tree : IsTree t) where
 
 -- ---- the path of a directory above
 
-cut_last : (xs front : List ℕ) → before_last xs ≡ Some front → (n : List ℕ) × (xs ≡ front ++ slash ∷ n)
+pub cut_last : (xs front : List ℕ) → before_last xs ≡ Some front → (n : List ℕ) × (xs ≡ front ++ slash ∷ n)
 cut_last [] front e = absurd (cc)
 cut_last (b ∷ rest) front e = elim (before_last rest) as (λ o. before_last rest ≡ o → more_before b o ≡ Some front → (n : List ℕ) × (b ∷ rest ≡ front ++ slash ∷ n)) [
   | Some f ↦ λ r h.

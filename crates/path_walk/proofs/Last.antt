@@ -1,15 +1,17 @@
 -- The folder and the last name of a path.
-use Rattle.std.proofs.Common.{◌≡◌, ◌+◌, ◌<◌, inl, inr, ℕ, suc, true, cond, List, [], ◌∷◌, ◌++◌, append_assoc, drop, length, length-append, refl, ap, sym, ◌∙◌, Option, Some, None, unwrap_or, arith}
+use Rattle.std.proofs.Common.{◌≡◌, ◌+◌, ◌<◌, inl, inr, ℕ, suc, true, cond, List, [], ◌∷◌, ◌++◌, append_assoc, drop, length, length-append, refl, ap, sym, ◌∙◌, Option, Some, None, unwrap_or, arith, not, ◌&&◌, ◌==◌}
 use Rattle.std.proofs.Math.Seq.{drop-append-add}
 use Rattle.std.proofs.lemmas.Bool.{and_parts}
 use Rattle.std.proofs.lemmas.List.Folds.{list_all-append}
 use Rattle.std.proofs.lemmas.List.Splits.{length-slice_split, slice_split-cons_no, slice_split-cons_yes}
 use Rattle.std.specs.List.{list_all, onto_first, slice_split}
 use Rattle.lib_types.proofs.SortedPairs.{by_test}
-use Rattle.lib_types.specs.Name.{is_name, slash}
+use Rattle.lib_types.specs.Name.{is_name, slash, have_no_slash}
 use Rattle.image_tree.specs.Paths.{is_path, is_slash, join, root, stem}
 use Rattle.path_walk.proofs.Linked.{IsFolder, name_alone}
 use Rattle.path_walk.specs.Names.{before_last, last, more_before, parent, unless_empty}
+use Rattle.lib_types.proofs.Bools.{not_true}
+use Rattle.image_tree.proofs.Rising.{first_name, name_goes_on}
 
 -- ---- the last part of a text
 
@@ -103,3 +105,9 @@ module _ (folder name : List ℕ) (named : is_name name ≡ true) where
 
   pub parent_joined : IsFolder folder → parent (join folder name) ≡ folder
   parent_joined is = ap (λ front. unless_empty (unwrap_or front [])) (cut folder name (name_alone name named)) ∙ from_stem folder is
+
+pub first_alone : (name : List ℕ) → have_no_slash name ≡ true → first_name name ≡ name
+first_alone [] h = refl
+first_alone (b ∷ name) h =
+    let parts = and_parts (not (b == slash) && not (b == 0)) (have_no_slash name) h in
+    name_goes_on b name (not_true (b == slash) (and_parts _ _ parts.0).0) ∙ ap (λ z. b ∷ z) (first_alone name parts.1)

@@ -1,3 +1,4 @@
+pub mod Alone
 mod Folders
 pub mod Joining
 pub mod KindsAt

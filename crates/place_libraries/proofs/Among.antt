@@ -1,5 +1,5 @@
 -- The libraries of a directory are those of a table's rows, if the table has the files of the search directories.
-use Rattle.std.proofs.Common.{◌≡◌, ℕ, Bool, true, false, cond, ◌&&◌, ◌||◌, List, [], ◌∷◌, ◌++◌, filter, flat_map, map, refl, ap, sym, subst, ◌∙◌, Option, Some, None, Ordering}
+use Rattle.std.proofs.Common.{◌≡◌, ℕ, Bool, true, false, cond, ◌&&◌, ◌||◌, List, [], ◌∷◌, ◌++◌, filter, flat_map, map, refl, ap, sym, subst, ◌∙◌, Option, Some, None}
 use Rattle.std.proofs.lemmas.Bool.{and_parts, or_right}
 use Rattle.std.proofs.lemmas.Cmp.{nat_list_cmp_total}
 use Rattle.std.proofs.lemmas.List.Folds.{list_any-append}
@@ -30,12 +30,12 @@ use Rattle.image_tree.specs.declared.tree.Kind.TheVariants as kinds
 use Rattle.path_walk.proofs.Linked.{folder_of_dir}
 use Rattle.path_walk.specs.Files.{is_file}
 use Rattle.path_walk.specs.Names.{last, parent}
-use Rattle.string_pool.proofs.Members.{each_meets}
+use Rattle.string_pool.proofs.Members.{each_meets, cmp}
 use Rattle.string_pool.proofs.EachOnce.{each_alike}
 use Rattle.library_files.proofs.FolderRows.{reals}
 use Rattle.string_pool.proofs.InByteOrder.{ascending_sorted, in_ascending}
 use Rattle.path_walk.proofs.Last.{last_joined, parent_joined}
-use Rattle.string_pool.proofs.Members.{AreSorted, is_in, itself, kept_in, left_out, same_members}
+use Rattle.string_pool.proofs.Members.{AreSorted, is_in, kept_in, left_out, same_members}
 use Rattle.string_pool.proofs.Ordered.{by_entries, filtered_same}
 use Rattle.file_table.specs.Analyses.{Analyses}
 use Rattle.place_libraries.specs.Libraries.{libraries_at, library_at, library_by, library_in}
@@ -44,9 +44,7 @@ use Rattle.library_files.specs.RealFolders.{HaveRows}
 use Rattle.place_libraries.specs.Rows.{AreOfPlaces, libraries_among, library_of}
 use Rattle.library_files.specs.Search.{file_in, files_at, files_in, wanted}
 use Rattle.file_table.specs.Table.{Rows, analysis_at}
-
-abbrev cmp : List ℕ → List ℕ → Ordering
-cmp = slice_cmp nat_cmp
+use Rattle.lib_types.proofs.SameTexts.{itself}
 
 -- the path is that of a file in this directory
 abbrev is_of : List ℕ → List ℕ → Bool

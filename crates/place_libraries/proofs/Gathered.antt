@@ -1,5 +1,5 @@
 -- The folds of items that are sorted by their sonames. The items of each soname are consecutive.
-use Rattle.std.proofs.Common.{◌≡◌, inl, inr, ◌<◌, ◌+◌, ◌-◌, ℕ, suc, zero, Bool, true, false, cond, not, ◌&&◌, ◌||◌, List, [], ◌∷◌, ◌++◌, append_assoc, get_or, length, map, refl, ap, sym, subst, ◌∙◌, Option, Some, None, Ordering, arith}
+use Rattle.std.proofs.Common.{◌≡◌, inl, inr, ◌<◌, ◌+◌, ◌-◌, ℕ, suc, zero, Bool, true, false, cond, not, ◌&&◌, ◌||◌, List, [], ◌∷◌, ◌++◌, append_assoc, get_or, length, map, refl, ap, sym, subst, ◌∙◌, Option, Some, None, arith}
 use Rattle.std.proofs.lemmas.Cmp.{nat_list_cmp_total, tied_itself}
 use Rattle.std.proofs.lemmas.List.Elements.{filter_agree}
 use Rattle.std.proofs.lemmas.List.Sorted.{length_permutation, list_any-IsPermutation, ranks_by, sorted_far}
@@ -7,23 +7,22 @@ use Rattle.std.proofs.lemmas.Map.Keys.{sorted_head, sorted_tail}
 use Rattle.std.proofs.lemmas.Slice.Eq.{bytes_eq-Decides}
 use Rattle.std.specs.BTreeMap.{is_at}
 use Rattle.std.specs.Cmp.{IsStrictWeakOrder}
-use Rattle.std.specs.Cmp.Lexicographic.{slice_cmp, texts_ties}
+use Rattle.std.specs.Cmp.Lexicographic.{texts_ties}
 use Rattle.std.specs.List.{AllByRecursion, filter, fold, list_any, slice_get}
 use Rattle.std.specs.List.Sorted.{IsPermutation, IsSorted, IsSortedBy, IsStable, IsStrictlySortedBy, ties}
 use Rattle.std.specs.Map.{keys_of}
 use Rattle.std.specs.Option.{is_some, option_map, unwrap_or}
-use Rattle.std.specs.Ordering.{is_eq, is_lt, match_ordering, nat_cmp}
+use Rattle.std.specs.Ordering.{is_eq, is_lt, match_ordering}
 use Rattle.std.specs.Str.{bytes_eq}
 use Rattle.std.specs.declared.cmp.Ordering.TheVariants.{Less, Equal, Greater}
 use Rattle.lib_types.proofs.SortedPairs.{by_ordering, by_test, flipped}
 use Rattle.string_pool.proofs.InByteOrder.{ascending_sorted, in_ascending, same_text}
-use Rattle.string_pool.proofs.Members.{is_in, itself, same_members}
+use Rattle.string_pool.proofs.Members.{is_in, same_members, cmp}
 use Rattle.string_pool.proofs.Ordered.{keys_stay}
 use Rattle.string_pool.specs.Order.{AreAscending, ascending, with_text}
 use Rattle.place_libraries.specs.Sonames.{AreBySoname, AreGathered, AreOrdered, IsGathered, found_at, gathered_at, is_last, of_soname, soname_order, soname_order-total}
-
-abbrev cmp : List ℕ → List ℕ → Ordering
-cmp = slice_cmp nat_cmp
+use Rattle.lib_types.proofs.SameTexts.{itself}
+use Rattle.file_table.proofs.Copied.{without}
 
 -- ---- a sort by sonames
 
@@ -87,14 +86,10 @@ left_ascending : (xs : List (List ℕ)) (k : List ℕ) (ys : List (List ℕ)) �
 left_ascending [] k ys up = up.1
 left_ascending (x ∷ xs) k ys up = (without_one (λ other. is_lt (cmp other x) ≡ false) xs k ys up.0, left_ascending xs k ys up.1)
 
-in_middle : (P : List ℕ → Type 0) (xs : List (List ℕ)) (k : List ℕ) (ys : List (List ℕ)) → AllByRecursion P (xs ++ k ∷ ys) → P k
-in_middle P [] k ys a = a.0
-in_middle P (x ∷ xs) k ys a = in_middle P xs k ys a.1
-
 -- a text after others is not less than any of them
 not_below : (xs : List (List ℕ)) (k : List ℕ) (ys : List (List ℕ)) → AreAscending (xs ++ k ∷ ys) → AllByRecursion (λ x. is_lt (cmp k x) ≡ false) xs
 not_below [] k ys up = tt
-not_below (x ∷ xs) k ys up = (in_middle (λ other. is_lt (cmp other x) ≡ false) xs k ys up.0, not_below xs k ys up.1)
+not_below (x ∷ xs) k ys up = (without (λ other. is_lt (cmp other x) ≡ false) xs k ys up.0, not_below xs k ys up.1)
 
 module _ {G : Type 0} where
   keys_both : (xs ys : List (List ℕ × G)) → keys_of (xs ++ ys) ≡ keys_of xs ++ keys_of ys

@@ -7,13 +7,14 @@ use Rattle.std.specs.Option.{option_and_then}
 use Rattle.std.specs.Str.{bytes_eq}
 use Rattle.hwcap_dirs.specs.declared.kinds.Place.{Place}
 use Rattle.image_tree.specs.Tree.{Nodes, children_of}
-use Rattle.string_pool.proofs.Members.{is_in, itself}
+use Rattle.string_pool.proofs.Members.{is_in}
 use Rattle.file_table.specs.Analyses.{Analyses, AgreeOn, HaveAnalyses, KeepsAnalyses}
 use Rattle.place_libraries.specs.Best.{bests, bests_of}
 use Rattle.place_libraries.specs.Libraries.{libraries_in, library_at, library_by, library_in}
 use Rattle.library_files.specs.Places.{by_place}
 use Rattle.library_files.specs.Search.{file_in, files_in, wanted}
 use Rattle.file_table.proofs.Agreeing.{kept_agree, agree_first, agree_later, agree_in_order}
+use Rattle.lib_types.proofs.SameTexts.{itself}
 
 -- ---- the same libraries give the same results
 

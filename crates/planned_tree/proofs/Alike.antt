@@ -48,7 +48,7 @@ open_no_file (Some node.Dir) h = absurd (cc)
 open_no_file (Some (node.File key id)) h = absurd (cc)
 
 -- the key of a file
-key_of : (o : Option Node) → key_in o ≡ option_map (λ file. file.0) (file_in o)
+pub key_of : (o : Option Node) → key_in o ≡ option_map (λ file. file.0) (file_in o)
 key_of None = refl
 key_of (Some node.Dir) = refl
 key_of (Some (node.File key id)) = refl

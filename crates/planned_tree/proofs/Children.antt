@@ -24,6 +24,7 @@ use Rattle.soname_links.proofs.Named.{is_dir_kind}
 use Rattle.path_walk.proofs.Last.{last_joined}
 use Rattle.string_pool.proofs.Members.{is_in, kept_in, same_members}
 use Rattle.planned_tree.proofs.There.{child_there, there_child}
+use Rattle.lib_types.proofs.Bools.{both_ways}
 
 -- not a link with a library name
 abbrev pub is_kept : Nodes → List ℕ → List ℕ → Bool
@@ -66,11 +67,6 @@ module _ (t new : Nodes) (tree : IsTree t) (after : IsTree new) (d : List ℕ) (
   kept_stays alike h =
       let parts = and_parts (is_kept t d z) (is_in (children_of t d) z) (sym (kept_in (is_kept t d) z (children_of t d)) ∙ h) in
       kept_there parts.0 parts.1 (alike (join d z))
-
-both_ways : (a b : Bool) → (a ≡ true → b ≡ true) → (b ≡ true → a ≡ true) → a ≡ b
-both_ways true b there back = sym (there refl)
-both_ways false true there back = back refl
-both_ways false false there back = refl
 
 no_children : (t : Nodes) (d : List ℕ) → is_dir (kind_at t d) ≡ false → children_of t d ≡ []
 no_children t d h = by (kind_at t d) h

@@ -1,6 +1,5 @@
 -- A text that ends in the name of a link with a library name leads nowhere.
 use Rattle.std.proofs.Common.{◌≡◌, ℕ, zero, suc, true, cond, List, [], ◌∷◌, ◌++◌, append_assoc, codes, refl, ap, sym, ◌∙◌, Result, Ok, Err}
-use Rattle.std.proofs.lemmas.Slice.Eq.{bytes_eq-Decides}
 use Rattle.std.specs.Str.{bytes_eq}
 use Rattle.lib_types.proofs.SortedPairs.{by_test}
 use Rattle.lib_types.specs.Name.{is_name}
@@ -19,15 +18,9 @@ use Rattle.path_walk.specs.declared.walk.TheConstants.{LINKS_MAX}
 use Rattle.path_walk.specs.declared.walk.WalkFault.TheVariants.{Absent, NotDir}
 use Rattle.hwcap_dirs.specs.Places.{is_dir}
 use Rattle.planned_tree.proofs.Walks.{hidden}
+use Rattle.path_walk.proofs.Alone.{of_folder}
 
 -- ---- a name
-
-of_folder : (text : List ℕ) → components (stem text) ≡ components text
-of_folder text = by_test (bytes_eq text root)
-    (λ e.
-    let same : text ≡ root = (bytes_eq-Decides text root).0 e in
-    ap (λ b. components (cond b [] text)) e ∙ ap components (sym same))
-    (λ e. ap (λ b. components (cond b [] text)) e)
 
 -- the names of a text with a name more
 joined_names : (text name : List ℕ) → is_name name ≡ true → components (join text name) ≡ components text ++ name ∷ []

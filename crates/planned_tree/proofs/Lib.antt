@@ -1,6 +1,5 @@
 pub mod Agree
 pub mod Alike
-mod Alone
 pub mod Children
 mod Ends
 mod Patterns

@@ -1,5 +1,5 @@
 -- Libraries are looked for in the same places in trees that are alike.
-use Rattle.std.proofs.Common.{◌≡◌, ℕ, Bool, true, false, cond, not, List, [], ◌∷◌, ◌++◌, filter, refl, ap, sym, ◌∙◌, Option, Some, None, Result, Ok, Err}
+use Rattle.std.proofs.Common.{◌≡◌, ℕ, Bool, true, false, cond, List, [], ◌∷◌, ◌++◌, filter, refl, ap, sym, ◌∙◌, Option, Some, None, Result, Ok, Err}
 use Rattle.std.proofs.lemmas.Bool.{and_parts}
 use Rattle.std.specs.List.{cons_option, filter_map, flat_map, list_all}
 use Rattle.std.specs.Option.{option_map}
@@ -22,12 +22,9 @@ use Rattle.planned_tree.proofs.Alike.{IsAlike, same_dir}
 use Rattle.planned_tree.proofs.Children.{children_kept, is_kept, same_kept}
 use Rattle.planned_tree.proofs.Ends.{link_not_found}
 use Rattle.planned_tree.proofs.Walks.{same_place}
+use Rattle.lib_types.proofs.Bools.{not_false}
 
 -- ---- names that give nothing
-
-not_false : (b : Bool) → not b ≡ false → b ≡ true
-not_false true h = refl
-not_false false h = absurd (cc)
 
 -- names that give nothing may be left out
 names_left : {Y : Type 0} (keep : List ℕ → Bool) (f : List ℕ → Option Y) → ((name : List ℕ) → is_name name ≡ true → keep name ≡ false → f name ≡ None)

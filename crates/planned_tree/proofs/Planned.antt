@@ -22,7 +22,7 @@ use Rattle.link_plan.specs.declared.kinds.Planned.{Planned}
 
 -- ---- the nodes
 
-abbrev is_put : List Planned → List ℕ → Bool
+abbrev pub is_put : List Planned → List ℕ → Bool
 is_put plan q = list_any (λ planned. bytes_eq q planned.path) plan
 
 not_put : (q : List ℕ) (plan : List Planned) (t : Nodes) → is_put plan q ≡ false → node_at (with_links t plan) q ≡ node_at t q

@@ -29,16 +29,12 @@ use Rattle.image_tree.specs.Tree.{Nodes, children_of, has_below, is_entry, kind_
 use Rattle.image_tree.specs.declared.node.Node.{Node}
 use Rattle.image_tree.specs.declared.node.Node.TheVariants as node
 use Rattle.image_tree.specs.declared.tree.Kind.TheVariants as kinds
-use Rattle.path_walk.proofs.Last.{last_joined}
+use Rattle.path_walk.proofs.Last.{last_joined, first_alone}
 use Rattle.string_pool.proofs.Members.{is_in}
+use Rattle.lib_types.proofs.SameTexts.{exact}
+use Rattle.soname_links.proofs.Joined.{no_slash_in}
 
 -- ---- the first name of a text
-
-first_alone : (name : List ℕ) → have_no_slash name ≡ true → first_name name ≡ name
-first_alone [] h = refl
-first_alone (b ∷ name) h =
-    let parts = and_parts (not (b == slash) && not (b == 0)) (have_no_slash name) h in
-    name_goes_on b name (not_true (b == slash) (and_parts _ _ parts.0).0) ∙ ap (λ z. b ∷ z) (first_alone name parts.1)
 
 first_more : (name more : List ℕ) → have_no_slash name ≡ true → first_name (name ++ slash ∷ more) ≡ name
 first_more [] more h = name_ended slash more refl
@@ -46,13 +42,7 @@ first_more (b ∷ name) more h =
     let parts = and_parts (not (b == slash) && not (b == 0)) (have_no_slash name) h in
     name_goes_on b (name ++ slash ∷ more) (not_true (b == slash) (and_parts _ _ parts.0).0) ∙ ap (λ z. b ∷ z) (first_more name more parts.1)
 
-flat : (name : List ℕ) → is_name name ≡ true → have_no_slash name ≡ true
-flat name h = (and_parts _ _ (and_parts _ _ h).0).1
-
 -- ---- names, each once
-
-exact : (x y : List ℕ) → bytes_eq x y ≡ true → x ≡ y
-exact x y e = (bytes_eq-Decides x y).0 e
 
 from_once : (z : List ℕ) (names : List (List ℕ)) → is_in (dedup bytes_eq names) z ≡ true → is_in names z ≡ true
 from_once z names h = list_any-from_Contains nat_list_eq_equiv z names (Contains-from_dedup bytes_eq names z (Contains-from_any exact z (dedup bytes_eq names) h))
@@ -133,7 +123,7 @@ module _ (d z : List ℕ) where
     goes_below : (p : List ℕ) → is_path (join d z) ≡ true → is_below (join d z) p ≡ true → goes_by p ≡ true
     goes_below p proper below =
         let cut = below_is (join d z) p proper below in
-        goes p (z ++ slash ∷ cut.0) (cut.1 ∙ append_assoc (folder d) z (slash ∷ cut.0)) (first_more z cut.0 (flat z named))
+        goes p (z ++ slash ∷ cut.0) (cut.1 ∙ append_assoc (folder d) z (slash ∷ cut.0)) (first_more z cut.0 (no_slash_in z named))
 
     any_goes : (t : Nodes) → is_path (join d z) ≡ true → has_below t (join d z) ≡ true → list_any (λ e. goes_by e.0) t ≡ true
     any_goes [] proper h = absurd (cc)
@@ -181,6 +171,6 @@ module _ (t : Nodes) (entries : list_all is_entry t ≡ true) (d : List ℕ) (di
     where
       by : is_path (join d z) ≡ true → (o : Option Node) → node_at t (join d z) ≡ o → (b : Bool) → has_below t (join d z) ≡ b
           → (kind_there (node_at t (join d z)) (has_below t (join d z)) ≡ kinds.Absent → ⊥) → list_any (λ e. goes_by d z e.0) t ≡ true
-      by proper (Some n) e b h some = found_any (λ e. goes_by d z e.0) t (join d z) n e (goes d z named (join d z) z refl (first_alone z (flat z named)))
+      by proper (Some n) e b h some = found_any (λ e. goes_by d z e.0) t (join d z) n e (goes d z named (join d z) z refl (first_alone z (no_slash_in z named)))
       by proper None e true h some = any_goes d z named t proper h
       by proper None e false h some = absurd (some (ap (λ o. kind_there o (has_below t (join d z))) e ∙ ap (kind_there None) h))

@@ -15,8 +15,8 @@ use Rattle.path_walk.specs.declared.walk.TheConstants.{LINKS_MAX}
 use Rattle.path_walk.specs.declared.walk.WalkFault.TheVariants.{Absent}
 use Rattle.path_walk.proofs.Last.{last_alone}
 use Rattle.planned_tree.proofs.Alike.{IsAlike, IsSame, IsSpot}
-use Rattle.planned_tree.proofs.Alone.{AreAlone, IsAlone, both_alone, components_alone}
 use Rattle.soname_links.specs.Plan.{is_taken}
+use Rattle.path_walk.proofs.Alone.{IsAlone, AreAlone, components_alone, both_alone}
 
 -- a link with a library name counts as absent
 pub hidden : (name target : List ℕ) (rest : List (List ℕ)) (place : List ℕ) → is_library_name name ≡ true → at_link Plain name target rest place ≡ Ends (Err Absent)

@@ -52,7 +52,7 @@ pub fn make_dirs(rt: &HostRuntime) -> io::Result<()> {
     Ok(())
 }
 
-/// Makes the image anew, without a file.
+/// Makes the image again, without a file.
 pub fn make_image(rt: &HostRuntime) -> io::Result<()> {
     let _ = fs::remove_dir_all(rt, ROOT);
     fs::create_dir(rt, ROOT)

@@ -9,7 +9,7 @@ use Rattle.ldconfig_core.specs.Texts.{AreTextsOf}
 use Rattle.lib_types.specs.Counts.{HasRisen}
 use Rattle.library_search.specs.Ldconfig.{links_in}
 use Rattle.link_plan.specs.declared.kinds.Planned.{Planned}
-use Rattle.root_answers.proofs.Directory.{of_one, used}
+use Rattle.root_answers.proofs.Directory.{of_one}
 use Rattle.root_answers.proofs.First.{only_risen}
 use Rattle.root_answers.specs.Check.{IsChecked, SaysWhether}
 use Rattle.root_answers.specs.Run.{FailsFirst, HasCause, RunStates}
@@ -24,6 +24,7 @@ use Rattle.tree_face.specs.Disk.{Content, DiskContent, content_eq}
 use Rattle.tree_face.specs.Known.{IfKnown}
 use Rattle.tree_face.specs.Store.{Contents}
 use Rattle.tree_face.specs.declared.disk.Slot.TheVariants.{Cache}
+use Rattle.root_update.proofs.Checked.{aux_read}
 
 -- links that aren't asked for don't count
 counted : (on : Bool) (plan : List Planned) → not (length (if on then plan else []) == 0) ≡ (on && not (length plan == 0))
@@ -62,11 +63,11 @@ module _ (parts : RootParts) (old new : RootStates) where
   -- the existing cache can't be read
   no_cache : (fault : SlotFault) → ReadsNoCache parts fault old new → HasCause parts (of_root (faults.Slot fault)) old new
   no_cache (slots.DiskFailed slot) r =
-      subst (λ (n : ℕ). HasRisen n new.disk.faults) (used parts.aux r.makes.loads.aux old.disk r.disk r.makes.loads.aux_is).cause (only_risen r.reads.reads.cause)
+      subst (λ (n : ℕ). HasRisen n new.disk.faults) (aux_read parts.aux r.makes.loads.aux old.disk r.disk r.makes.loads.aux_is).cause (only_risen r.reads.reads.cause)
   no_cache slots.NoMemory r = record {
     folder = r.makes.loads.tree_is.reads.done.faults;
     store = r.makes.reads.any.cause;
-    disk = r.reads.reads.cause ∙ (used parts.aux r.makes.loads.aux old.disk r.disk r.makes.loads.aux_is).cause;
+    disk = r.reads.reads.cause ∙ (aux_read parts.aux r.makes.loads.aux old.disk r.disk r.makes.loads.aux_is).cause;
   }
 
 pub fails_reading : (parts : RootParts) (old new : RunStates) (fault : SlotFault) (status : Status) → ReadsNoCache parts fault old.files new.files
@@ -77,7 +78,7 @@ fails_reading parts old new fault status r ends = record {
     folder = r.makes.loads.tree_is.reads.keeps;
     made = r.makes.loads.tree_is.reads.made;
     disk = (reads_next (aux_slots parts.aux) (Cache ∷ []) (slot_ending {A = Content} (Err fault)) old.files.disk r.disk new.files.disk
-        (used parts.aux r.makes.loads.aux old.files.disk r.disk r.makes.loads.aux_is) r.reads.reads).keeps;
+        (aux_read parts.aux r.makes.loads.aux old.files.disk r.disk r.makes.loads.aux_is) r.reads.reads).keeps;
   };
   output = ends.1;
 }

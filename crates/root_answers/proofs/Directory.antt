@@ -1,14 +1,12 @@
 -- Facts about the image that was read, as facts about the directory.
-use Rattle.std.proofs.Common.{◌≡◌, ◌∙◌, [], Option, Some, None, Err, ap, subst, sym}
-use Rattle.image_session.proofs.ReadSlots.{reads_none}
+use Rattle.std.proofs.Common.{◌≡◌, ◌∙◌, Option, Some, None, Err, ap, subst}
 use Rattle.image_session.specs.Reading.{ReadsContent}
 use Rattle.image_session.specs.Session.{Loaded, image_with}
 use Rattle.image_session.specs.declared.fault.SlotFault.{SlotFault}
 use Rattle.image_tree.specs.Tree.{Nodes}
 use Rattle.root_answers.specs.Run.{IfDirectory}
 use Rattle.root_folder.specs.Folder.{FolderContent}
-use Rattle.root_update.specs.Check.{aux_slots}
-use Rattle.root_update.specs.Loading.{FailsToUseAux, IfAux, LoadsRoot, UsesAux}
+use Rattle.root_update.specs.Loading.{FailsToUseAux, IfAux, LoadsRoot}
 use Rattle.root_update.specs.Made.{RootStates, image_states}
 use Rattle.root_update.specs.declared.parts.AuxUse.{AuxUse}
 use Rattle.root_update.specs.declared.parts.AuxUse.TheVariants.{Unused, Replaced, Updated}
@@ -16,36 +14,17 @@ use Rattle.root_update.specs.declared.parts.RootParts.{RootParts}
 use Rattle.root_writes.specs.Writing.{States}
 use Rattle.tree_face.proofs.Known.{known_then}
 use Rattle.tree_face.specs.Disk.{Content, DiskContent, DiskState}
-use Rattle.tree_face.specs.DiskUse.{ReadsOnly}
 use Rattle.tree_face.specs.Known.{IfKnown}
 use Rattle.tree_face.specs.Store.{Contents}
-use Rattle.tree_face.specs.StoreUse.{Complete}
 use Rattle.tree_face.specs.declared.disk.Slot.TheVariants.{Aux}
+use Rattle.root_update.proofs.Loaded.{if_aux}
 
 -- ---- the auxiliary cache
-
-unread : (a b : DiskState) → b ≡ a → ReadsOnly [] Complete a b
-unread a b same = subst (λ (s : DiskState). ReadsOnly [] Complete a s) (sym same) (reads_none a)
-
--- it is only read
-pub used : (how : AuxUse) (aux : Content) (a b : DiskState) → UsesAux how aux a b → ReadsOnly (aux_slots how) Complete a b
-used Unused aux a b is = unread a b is.1
-used Replaced aux a b is = unread a b is.1
-used Updated aux a b is = is.reads
 
 pub unused : (how : AuxUse) (fault : SlotFault) (a b : DiskState) → FailsToUseAux how fault a b → ReadsContent Aux (Err fault) a b
 unused Unused fault a b is = absurd is
 unused Replaced fault a b is = absurd is
 unused Updated fault a b is = is
-
-in_slot : (known : Option DiskContent) (aux : Content) (P : Content → Type 0) → IfKnown known (λ c. c.now.aux ≡ aux) → P aux → IfKnown known (λ c. P c.now.aux)
-in_slot None aux P is fact = tt
-in_slot (Some c) aux P is fact = subst P (sym is) fact
-
-if_aux : (how : AuxUse) (aux : Content) (a b : DiskState) (P : Content → Type 0) → UsesAux how aux a b → P aux → IfAux how a.contents P
-if_aux Unused aux a b P is fact = subst P is.0 fact
-if_aux Replaced aux a b P is fact = subst P is.0 fact
-if_aux Updated aux a b P is fact = in_slot a.contents aux P is.content fact
 
 pub aux_then : (how : AuxUse) (known : Option DiskContent) (P Q : Content → Type 0) → ((c : Content) → P c → Q c) → IfAux how known P → IfAux how known Q
 aux_then Unused known P Q f h = f None h

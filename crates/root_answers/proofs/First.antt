@@ -11,7 +11,7 @@ use Rattle.ldconfig_core.specs.declared.fault.UpdateFault.TheVariants as updatin
 use Rattle.ldconfig_core.specs.declared.preparing.Prepared.{Prepared}
 use Rattle.lib_types.specs.Counts.{HasRisen}
 use Rattle.library_search.specs.Begun.{lacks_some}
-use Rattle.root_answers.proofs.Directory.{unused, used}
+use Rattle.root_answers.proofs.Directory.{unused}
 use Rattle.root_answers.specs.Run.{FailsFirst, HasCause, HasOutcome, RunStates, WritesNothing}
 use Rattle.root_folder.specs.Folder.{FolderState}
 use Rattle.root_tree.proofs.Readings.{no_reading}
@@ -25,6 +25,7 @@ use Rattle.root_update.specs.declared.fault.RootFault.TheVariants as faults
 use Rattle.root_update.specs.declared.parts.RootParts.{RootParts}
 use Rattle.tree_face.specs.Known.{IfKnown}
 use Rattle.tree_face.specs.Store.{Contents, StoreState}
+use Rattle.root_update.proofs.Checked.{aux_read}
 
 pub only_risen : {A : Type 0} → A ⊎ ⊥ → A
 only_risen (inl a) = a
@@ -60,7 +61,7 @@ module _ (parts : RootParts) (old new : RootStates) where
   cause (faults.Tree reads.NoMemory) is = record {
     folder = is.0.tree.reads.failed.faults;
     store = ap (λ (s : StoreState). s.faults) is.1;
-    disk = (used parts.aux is.0.aux old.disk new.disk is.0.aux_is).cause;
+    disk = (aux_read parts.aux is.0.aux old.disk new.disk is.0.aux_is).cause;
   }
   cause (faults.Update updating.StoreFault) is = inr (lacking is.image is.loads old.store.held is.answers is.reads.any.cause)
   cause (faults.Update (updating.TooLarge nodes bytes)) is = inr (outcome is.image is.loads (TooLarge nodes bytes) old.store.held is.answers)
@@ -69,7 +70,7 @@ module _ (parts : RootParts) (old new : RootStates) where
   cause (faults.Update updating.NoMemory) is = record {
     folder = is.loads.tree_is.reads.done.faults;
     store = is.reads.any.cause;
-    disk = (used parts.aux is.loads.aux old.disk new.disk is.loads.aux_is).cause;
+    disk = (aux_read parts.aux is.loads.aux old.disk new.disk is.loads.aux_is).cause;
   }
   cause (faults.Write fault) is = absurd is
 
@@ -80,12 +81,12 @@ module _ (parts : RootParts) (old new : RootStates) where
   nothing (faults.Tree fault) is = record {
     folder = is.0.tree.reads.keeps;
     made = is.0.tree.reads.made;
-    disk = (used parts.aux is.0.aux old.disk new.disk is.0.aux_is).keeps;
+    disk = (aux_read parts.aux is.0.aux old.disk new.disk is.0.aux_is).keeps;
   }
   nothing (faults.Update fault) is = record {
     folder = is.loads.tree_is.reads.keeps;
     made = is.loads.tree_is.reads.made;
-    disk = (used parts.aux is.loads.aux old.disk new.disk is.loads.aux_is).keeps;
+    disk = (aux_read parts.aux is.loads.aux old.disk new.disk is.loads.aux_is).keeps;
   }
   nothing (faults.Write fault) is = absurd is
 

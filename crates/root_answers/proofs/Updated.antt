@@ -7,7 +7,7 @@ use Rattle.image_tree.specs.Tree.{Nodes}
 use Rattle.ldconfig_core.specs.Texts.{AreTextsOf, UpdateTexts}
 use Rattle.lib_types.specs.Counts.{HasRisen}
 use Rattle.library_search.proofs.Reliable.{none_true}
-use Rattle.root_answers.proofs.Directory.{any_aux, aux_then, both, of_one, used}
+use Rattle.root_answers.proofs.Directory.{any_aux, aux_then, both, of_one}
 use Rattle.root_answers.specs.Run.{IfDirectory}
 use Rattle.root_answers.specs.Update.{ChangesNothing, IsLastOne, IsUpdated, LeavesFiles, aux_in, files_left, tree_left, written_or}
 use Rattle.root_answers.specs.declared.runs.RootAsked.{RootAsked}
@@ -28,6 +28,7 @@ use Rattle.tree_face.proofs.Known.{known_then, relates_by}
 use Rattle.tree_face.specs.Disk.{Content, DiskContent, Slots}
 use Rattle.tree_face.specs.Known.{IfKnown, Relates}
 use Rattle.tree_face.specs.Store.{Contents}
+use Rattle.root_update.proofs.Checked.{aux_read}
 
 -- ---- the files
 
@@ -143,7 +144,7 @@ module _ (asked : RootAsked) (old new : RootStates) where
         ∙ ap (λ (c : Content). slots a.now.manifest c (written_or (aux_for parts.aux w.texts.aux) a.now.aux)) (asked_cache parts.cache w.texts.cache a.now.cache))
         old.disk.contents new.disk.contents
         (subst (λ (c : Option DiskContent). Relates (Replaces asked.tag.0 (files_for parts w.texts)) c new.disk.contents)
-        (used parts.aux w.makes.loads.aux old.disk w.disk w.makes.loads.aux_is).keeps.contents w.written.1.contents)
+        (aux_read parts.aux w.makes.loads.aux old.disk w.disk w.makes.loads.aux_is).keeps.contents w.written.1.contents)
 
     files : IfDirectory parts old (λ held image. Relates (LeavesFiles parts held image) old.disk.contents new.disk.contents)
     files = of_one parts old (λ held image. Relates (LeavesFiles parts held image) old.disk.contents new.disk.contents) _ w.image w.makes.loads
@@ -174,7 +175,7 @@ module _ (asked : RootAsked) (old new : RootStates) where
       errors = record {
         folder = w.written.0.faults ∙ w.makes.loads.tree_is.reads.done.faults;
         store = w.makes.reads.any.cause;
-        disk = w.written.1.faults ∙ (used parts.aux w.makes.loads.aux old.disk w.disk w.makes.loads.aux_is).cause;
+        disk = w.written.1.faults ∙ (aux_read parts.aux w.makes.loads.aux old.disk w.disk w.makes.loads.aux_is).cause;
       };
       links = links;
       files = files;
@@ -185,4 +186,4 @@ module _ (asked : RootAsked) (old new : RootStates) where
   pub risen : (fault : WriteFault) → WritesMade parts asked.tag (Err fault) None old new → HasRisen old.folder.faults new.folder.faults ⊎ HasRisen old.disk.faults new.disk.faults
   risen (Links fault) w = inl (subst (λ (n : ℕ). HasRisen n new.folder.faults) w.makes.loads.tree_is.reads.done.faults w.written.0.faults)
   risen (Files fault) w =
-      inr (subst (λ (n : ℕ). HasRisen n new.disk.faults) (used parts.aux w.makes.loads.aux old.disk w.disk w.makes.loads.aux_is).cause w.written.1.faults)
+      inr (subst (λ (n : ℕ). HasRisen n new.disk.faults) (aux_read parts.aux w.makes.loads.aux old.disk w.disk w.makes.loads.aux_is).cause w.written.1.faults)

@@ -96,3 +96,12 @@ pub record RaisesNone (old new : RunStates) : Type 0 where
 abbrev pub Completes : RootParts → RunStates → RunStates → Type 0 → Type 0
 Completes parts old new IsOne =
     IfDirectory parts old.files (λ held image. CanBeUpdated parts.scope held image → RaisesNone old new → IsOne)
+
+-- an update that can be made is done, or memory runs out
+abbrev pub UpdateCompletes : RootParts → Status → RunStates → RunStates → Type 0
+UpdateCompletes parts status old new = Completes parts old new ((status ≡ statuses.Done) ⊎ (status ≡ statuses.NoMemory))
+
+-- the same for a check, which may find a change
+abbrev pub CheckCompletes : RootParts → Status → RunStates → RunStates → Type 0
+CheckCompletes parts status old new =
+    Completes parts old new ((status ≡ statuses.Done) ⊎ ((status ≡ statuses.Missing) ⊎ (status ≡ statuses.NoMemory)))

@@ -1,9 +1,8 @@
 //! An update of a directory, and a check of what it would change, to the status with which each ends.
-ghost use Rattle.std.specs.Prelude.{◌≡◌, ◌⊎◌, Ok, Err};
-ghost use Rattle.command_status.specs.declared.status.Status.TheVariants.{Done, Missing, NoMemory};
+ghost use Rattle.std.specs.Prelude.{Ok, Err};
 ghost use Rattle.root_answers.specs.Check.{CheckEnds};
 ghost use Rattle.root_answers.specs.Ending.{EndsCheck, EndsUpdate};
-ghost use Rattle.root_answers.specs.Run.{Completes, run_states};
+ghost use Rattle.root_answers.specs.Run.{CheckCompletes, UpdateCompletes, run_states};
 ghost use Rattle.root_answers.specs.Update.{UpdateEnds};
 ghost use Rattle.root_update.specs.Made.{root_states};
 ghost use Rattle.root_update.specs.Repair.{IfMade, RepairsRoot};
@@ -96,10 +95,9 @@ pub fn run_update<F: Folder, S: Store, D: Disk, O: Sink>(
     ensures ends { UpdateEnds asked.now result.status
         (run_states (F.state folder.old) (S.state store.old) (D.state disk.old) (O.state output.old))
         (run_states (F.state folder.new) (S.state store.new) (D.state disk.new) (O.state output.new)) }
-    ensures completes { Completes asked.now.parts.now
+    ensures completes { UpdateCompletes asked.now.parts.now result.status
         (run_states (F.state folder.old) (S.state store.old) (D.state disk.old) (O.state output.old))
-        (run_states (F.state folder.new) (S.state store.new) (D.state disk.new) (O.state output.new))
-        ((result.status ≡ Done) ⊎ (result.status ≡ NoMemory)) }
+        (run_states (F.state folder.new) (S.state store.new) (D.state disk.new) (O.state output.new)) }
     ensures repairs { IfMade result.outcome (RepairsRoot asked.now.parts.now
         (root_states (F.state folder.old) (S.state store.old) (D.state disk.old)) (root_states (F.state folder.new) (S.state store.new) (D.state disk.new))) }
     ensures ending { EndsUpdate asked.now.shown result.outcome result.status (O.state output.old) (O.state output.new) }
@@ -121,10 +119,9 @@ pub fn run_check<F: Folder, S: Store, D: Disk, O: Sink>(
     ensures ends { CheckEnds asked.now result.status
         (run_states (F.state folder.old) (S.state store.old) (D.state disk.old) (O.state output.old))
         (run_states (F.state folder.new) (S.state store.new) (D.state disk.new) (O.state output.new)) }
-    ensures completes { Completes asked.now.parts.now
+    ensures completes { CheckCompletes asked.now.parts.now result.status
         (run_states (F.state folder.old) (S.state store.old) (D.state disk.old) (O.state output.old))
-        (run_states (F.state folder.new) (S.state store.new) (D.state disk.new) (O.state output.new))
-        ((result.status ≡ Done) ⊎ ((result.status ≡ Missing) ⊎ (result.status ≡ NoMemory))) }
+        (run_states (F.state folder.new) (S.state store.new) (D.state disk.new) (O.state output.new)) }
     ensures ending { EndsCheck asked.now.shown result.outcome result.status (O.state output.old) (O.state output.new) }
 {
     let outcome = check_root(alloc, asked.parts, folder, store, disk);

@@ -1,5 +1,5 @@
 -- What a crash leaves of a directory, over several calls.
-use Rattle.std.proofs.Common.{◌≡◌, ◌≤◌, ◌⊎◌, ◌||◌, ℕ, Bool, true, false, List, refl, ap, sym, subst, ◌∙◌, inl, inr, ⊎_elim, arith, Option, Some, None, Result, Ok, Err}
+use Rattle.std.proofs.Common.{◌≡◌, ◌≤◌, ◌⊎◌, ℕ, Bool, true, List, refl, ap, sym, subst, ◌∙◌, inl, inr, ⊎_elim, arith, Option, Some, None, Result, Ok, Err}
 use Rattle.std.proofs.lemmas.Slice.Eq.{bytes_eq-Decides}
 use Rattle.std.specs.Str.{bytes_eq}
 use Rattle.lib_types.proofs.SortedPairs.{by_test}
@@ -12,10 +12,7 @@ use Rattle.root_folder.specs.Crash.{AddsLink, HasMoments, Leaves, LeavesAtMost, 
 use Rattle.root_folder.specs.Folder.{FolderContent, FolderState, KeepsFolder}
 use Rattle.root_folder.specs.Found.{Found, found_eq}
 use Rattle.root_folder.specs.Whole.{is_in}
-
-or_true : (a b : Bool) → (a || b) ≡ true → (a ≡ true) ⊎ (b ≡ true)
-or_true true b e = inl refl
-or_true false b e = inr e
+use Rattle.lib_types.proofs.Bools.{or_true}
 
 module _ (P : List ℕ → Found → Type 0) where
   -- two calls in sequence

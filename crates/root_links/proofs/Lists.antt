@@ -15,6 +15,7 @@ use Rattle.lib_types.proofs.SortedPairs.{by_test}
 use Rattle.root_links.specs.Links.{IsOfLinks, Linking, are_valid, dir_of, dirs_in, is_valid, links_in, with_link, with_links}
 use Rattle.root_links.specs.Steps.{is_last_of}
 use Rattle.root_links.specs.declared.making.NewLink.{NewLink}
+use Rattle.lib_types.proofs.SameTexts.{exact}
 
 module _ {A : Type 0} where
   -- an item, and the items after it
@@ -99,9 +100,6 @@ others_go dir [] h = absurd (false≢true (sym h))
 others_go dir (next ∷ dirs) h = by_test (bytes_eq next dir)
     (λ e. ap (λ b. cond b (dedup_from bytes_eq dir dirs) (dir ∷ dedup_from bytes_eq next dirs)) e ∙ ap (λ d. dedup_from bytes_eq d dirs) (sym ((bytes_eq-Decides next dir).0 e)))
     (λ e. absurd (false≢true (sym h ∙ ap not e)))
-
-exact : (x y : List ℕ) → bytes_eq x y ≡ true → x ≡ y
-exact x y e = (bytes_eq-Decides x y).0 e
 
 -- a directory in the list is also in the list without consecutive duplicates
 pub once : (z : List ℕ) (dirs : List (List ℕ)) → list_any (bytes_eq z) dirs ≡ true → list_any (bytes_eq z) (dedup bytes_eq dirs) ≡ true

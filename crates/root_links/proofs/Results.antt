@@ -1,10 +1,6 @@
 -- Consequences of the postconditions of a result.
-use Rattle.std.proofs.Common.{Result, Ok, Err, OnOk}
+use Rattle.std.proofs.Common.{Result, Ok, Err}
 use Rattle.std.specs.Result.{IfErr}
-
-pub on_ok_by : {A E : Type 0} (P Q : Type 0) (r : Result A E) → (P → Q) → OnOk r P → OnOk r Q
-on_ok_by P Q (Ok x) f p = f p
-on_ok_by P Q (Err e) f p = tt
 
 pub if_err_by : {A E : Type 0} (P Q : E → Type 0) (r : Result A E) → ((e : E) → P e → Q e) → IfErr r P → IfErr r Q
 if_err_by P Q (Ok x) f p = tt

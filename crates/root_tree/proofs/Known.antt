@@ -28,9 +28,7 @@ use Rattle.root_tree.proofs.Directly.{child_of}
 use Rattle.root_tree.proofs.Names as paths
 use Rattle.root_tree.proofs.Parts.{IsFoundBy, any_found, one_list, one_longer, shorter}
 use Rattle.root_tree.specs.SoFar.{IsFullAt, IsPart, IsReadBut, IsReadIn, SoFar, dirs_with, is_named, is_todo, listed, new_at, seen, so_far, with_found, with_node}
-
-by_some : {a b : Node} → Some a ≡ Some b → a ≡ b
-by_some e = cc
+use Rattle.image_tree.proofs.FoundNodes.{by_some}
 
 -- ---- members of a list
 

@@ -16,6 +16,7 @@ use Rattle.root_tree.specs.SoFar.{Grows, IsFullAt, IsListing, IsPart, IsReadBut,
 use Rattle.root_tree.specs.declared.fault.TreeRead.{TreeRead}
 use Rattle.root_tree.specs.declared.fault.TreeRead.TheVariants.{Failed, TooLarge, NoMemory}
 use Rattle.tree_face.specs.Known.{IfKnown}
+use Rattle.lib_types.proofs.Counts.{raised_on}
 
 -- ---- a known content
 
@@ -66,9 +67,6 @@ module _ (dir : List ℕ) (names : List (List ℕ)) (name : List ℕ) (rest : Li
   listing_full at first = full old.contents whole (known_as _ old.contents middle.contents so_far.reads.keeps.contents at) so_far.part first
 
 -- ---- directories in sequence
-
-raised_on : (c a b : ℕ) → raised (raised c a) b ≡ raised c (a + b)
-raised_on c a b = omega arith
 
 module _ (tree : Nodes) (todo rest : List (List ℕ)) (dir : List ℕ) (old middle : FolderState) (whole : HasWholeTree old) (is_tree : IsTree tree)
     (so_far_read : IsReading (so_far tree todo) old middle) (taken : todo ≡ rest ++ dir ∷ []) where

@@ -16,21 +16,12 @@ use Rattle.image_tree.specs.Tree as tree
 use Rattle.image_tree.specs.Tree.{Nodes, IsPathSorted, clash_with, clashes, has_below, node_at}
 use Rattle.image_tree.specs.declared.node.Node.{Node}
 use Rattle.root_tree.specs.SoFar.{IsPart}
+use Rattle.image_tree.proofs.FoundNodes.{found_here, found_later}
 
 -- ---- look-ups in a sorted list
 
-found_here : (e : List ℕ × Node) (t : Nodes) → node_at (e ∷ t) e.0 ≡ Some e.1
-found_here e t = ap (λ r. cond (is_eq r) (Some e.1) (node_at t e.0)) (tied_itself path_total e.0)
-
 found_after : (e : List ℕ × Node) (t : Nodes) (q : List ℕ) → path_cmp e.0 q ≡ Less → node_at (e ∷ t) q ≡ node_at t q
 found_after e t q less = ap (λ r. cond (is_eq r) (Some e.1) (node_at t q)) (flipped path_total e.0 q Less less)
-
--- if all keys of a list are greater than `p`, so is the key of a node that is found in it
-found_later : (p : List ℕ) (t : Nodes) (q : List ℕ) (n : Node) → AllByRecursion (λ k. path_cmp p k ≡ Less) (keys_of t) → node_at t q ≡ Some n → path_cmp p q ≡ Less
-found_later p [] q n all e = absurd (cc)
-found_later p (f ∷ t) q n all e = by_test (is_at (path_cmp q) f.0)
-    (λ a. subst (λ z. path_cmp p z ≡ Less) (sym (exact q f.0 ((Equal-is (path_cmp q f.0)).0 a))) all.0)
-    (λ a. found_later p t q n all.1 (sym (ap (λ b. cond b (Some f.1) (node_at t q)) a) ∙ e))
 
 -- ---- parts
 

@@ -31,10 +31,10 @@ unmade parts (faults.Write fault) old new is = absurd is
 
 -- ---- the files that are read
 
-unread : (a b : DiskState) → b ≡ a → ReadsOnly [] Complete a b
+pub unread : (a b : DiskState) → b ≡ a → ReadsOnly [] Complete a b
 unread a b same = subst (λ (s : DiskState). ReadsOnly [] Complete a s) (sym same) (reads_none a)
 
-aux_read : (how : AuxUse) (aux : Content) (a b : DiskState) → UsesAux how aux a b → ReadsOnly (aux_slots how) Complete a b
+pub aux_read : (how : AuxUse) (aux : Content) (a b : DiskState) → UsesAux how aux a b → ReadsOnly (aux_slots how) Complete a b
 aux_read Unused aux a b is = unread a b is.1
 aux_read Replaced aux a b is = unread a b is.1
 aux_read Updated aux a b is = is.reads

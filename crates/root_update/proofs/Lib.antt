@@ -1,7 +1,7 @@
 mod Again
 mod AsImage
-mod Checked
-mod Loaded
+pub mod Checked
+pub mod Loaded
 mod Made
 pub mod Plans
 mod Reopened

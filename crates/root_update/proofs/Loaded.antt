@@ -33,7 +33,7 @@ of_text aux (Err fault) a b is stamps damaged recordable no_memory =
     subst (λ (fault : SlotFault). ReadsContent Aux (Err fault) a b) (sym no_memory) (record { content = tt; fails = tt; reads = gave_up (Aux ∷ []) a b is.reads })
 
 -- a property of the content that was read
-in_slot : (known : Option DiskContent) (aux : Content) (P : Content → Type 0) → IfKnown known (λ c. c.now.aux ≡ aux) → P aux → IfKnown known (λ c. P c.now.aux)
+pub in_slot : (known : Option DiskContent) (aux : Content) (P : Content → Type 0) → IfKnown known (λ c. c.now.aux ≡ aux) → P aux → IfKnown known (λ c. P c.now.aux)
 in_slot None aux P is fact = tt
 in_slot (Some c) aux P is fact = subst P (sym is) fact
 

@@ -25,6 +25,7 @@ use Rattle.image_tree.specs.declared.node.Id.{Id}
 use Rattle.lib_types.proofs.SortedPairs.{by_test}
 use Rattle.lib_types.specs.declared.analysis.Analysis.{Analysis}
 use Rattle.tree_face.specs.Store.{Contents}
+use Rattle.lib_types.proofs.Bools.{neither}
 
 -- ---- stamps that are put stay
 
@@ -58,10 +59,6 @@ module _ (held : Contents) (t : Nodes) where
       by (Some s) rest = (stays (put made s) (stamps_at held t paths) s.id (put_there made s), rest (put made s))
 
 -- ---- the contents of opened files are held
-
-neither : (a b : Bool) → (a || b) ≡ false → (a ≡ false) × (b ≡ false)
-neither true b h = absurd (cc)
-neither false b h = (refl, h)
 
 or_false : (b : Bool) → b ≡ (b || false)
 or_false true = refl

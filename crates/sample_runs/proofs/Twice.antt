@@ -16,12 +16,13 @@ use Rattle.tree_face.specs.Known.{IfKnown, Relates}
 use Rattle.tree_face.specs.Store.{Contents, StoreState}
 use Rattle.sample_runs.proofs.Edited.{first_edited, replaced_edited, writes_all}
 use Rattle.sample_runs.proofs.Reliable.{first_right, second_right}
-use Rattle.sample_runs.proofs.Updating.{Leaves, all_begun, none_follow, risen_since}
+use Rattle.sample_runs.proofs.Updating.{Leaves, all_begun, none_follow}
 use Rattle.sample_runs.specs.declared.fault.SampleFault.{SampleFault}
 use Rattle.sample_runs.specs.declared.fault.SampleFault.TheVariants.{DiskFault, NoMemory, StoreFault}
 use Rattle.sample_runs.specs.declared.updates.SampleUpdate.{SampleUpdate}
 use Rattle.sample_runs.specs.Images.{all_replaced, first_image, second_image}
 use Rattle.sample_runs.specs.Updates.{AreUpdatesOf, AreWritten, Goes, IsUpdateOf, Lacks, LacksFile, ReadsTwice, SampleFails, UpdateFails, UpdatesTo, UpdatesTwice, UsesPart, UsesSample, keys_of, sample_keys, sample_tag}
+use Rattle.lib_types.proofs.Counts.{risen_since}
 
 second_is : (held : Contents) (n : ℕ) (updated : Loaded) → updated ≡ planned_image Image held (first_image n) → all_replaced n updated ≡ second_image held n
 unfolding second_image

@@ -9,7 +9,6 @@ use Rattle.ldconfig_core.specs.declared.report.Report.{Report}
 use Rattle.ldconfig_core.specs.Repair.{slots_after}
 use Rattle.ldconfig_core.specs.Texts.{AreTextsOf, UpdateTexts, writes_of}
 use Rattle.ldconfig_core.specs.Update.{IsUpdated, Updates, update_ending}
-use Rattle.lib_types.specs.Counts.{HasRisen}
 use Rattle.image_session.specs.Session.{Loaded}
 use Rattle.atomic_replace.specs.OneByOne.{calls_of}
 use Rattle.library_search.specs.Begun.{lacks_file, update_bytes}
@@ -28,11 +27,9 @@ use Rattle.sample_runs.specs.declared.fault.SampleFault.TheVariants.{DiskFault, 
 use Rattle.sample_runs.specs.declared.updates.SampleUpdate.{SampleUpdate}
 use Rattle.sample_runs.specs.Faults.{of_update}
 use Rattle.sample_runs.specs.Updates.{Goes, IsUpdateOf, ReadFails, UpdateFails, UpdatesTo, UsesPart, keys_of, sample_tag}
+use Rattle.lib_types.proofs.Counts.{risen_since}
 
 -- ---- counts
-
-pub risen_since : (a b c : ℕ) → a ≤ b → HasRisen b c → HasRisen a c
-risen_since a b c before risen = omega (arith, before, risen)
 
 -- ---- what is read
 

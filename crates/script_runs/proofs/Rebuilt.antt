@@ -43,12 +43,9 @@ use Rattle.script_runs.specs.Course.{Course, course, course_by, course_of_update
 use Rattle.script_runs.specs.Faults.{numbered, updated}
 use Rattle.script_runs.specs.Left.{AreMade, AreSlots, AreWritten, EndsBy, EndsByUpdate, FollowsAndPart, IsUpdateOf, LeavesRebuilt, joined, keys_of}
 use Rattle.script_runs.specs.Run.{DoesLine, DoesUpdate, GoesOn, RunsLines, after_line}
+use Rattle.lib_types.proofs.Counts.{risen_since}
 
 -- ---- counts of faults
-
--- a count that is above its value at a later moment is above its value at an earlier one
-risen_since : (a b c : ℕ) → a ≤ b → HasRisen b c → HasRisen a c
-risen_since a b c before risen = omega (arith, before, risen)
 
 -- no count of faults fell
 pub record AreBefore (old between : States) : Type 0 where

@@ -12,7 +12,7 @@ use Rattle.ldso_conf.specs.declared.kinds.Conf.{Conf}
 use Rattle.ldso_conf.specs.declared.reading.TheConstants.{DEPTH_MAX}
 use Rattle.path_walk.specs.declared.walk.Mode.TheVariants.{Plain}
 use Rattle.root_folder.specs.Whole.{IsWhole}
-use Rattle.seen_conf.proofs.Items.{AreRead, AreSame, Files, GiveSame, following, read_parts, step_same, until_both}
+use Rattle.seen_conf.proofs.Items.{AreRead, AreSame, Files, GiveSame, read_parts, step_same, until_both}
 use Rattle.seen_conf.proofs.Steps.{steps_seen}
 use Rattle.ldso_conf.specs.Looked.{file_paths, items_looked, patterns_looked}
 use Rattle.conf_views.specs.Patterns.{results_looked}
@@ -21,6 +21,7 @@ use Rattle.seen_tree.specs.Part.{AreSeen, IsPart, looked_by}
 use Rattle.tree_face.specs.Known.{IfKnown}
 use Rattle.tree_face.specs.Store.{Contents, StoreState}
 use Rattle.tree_face.specs.StoreUse.{Ending, ReadsFiles}
+use Rattle.ldso_conf.proofs.Items.{following}
 
 module _ (t part : Nodes) (whole : IsWhole t) (is : IsPart t part) where
   -- ---- the items of one file

@@ -12,6 +12,7 @@ use Rattle.ldso_conf.specs.Looked.{item_paths, patterns_looked}
 use Rattle.conf_views.specs.Patterns.{results_looked}
 use Rattle.seen_tree.proofs.Same.{seen_parts}
 use Rattle.seen_tree.specs.Part.{AreSeen}
+use Rattle.ldso_conf.proofs.Items.{following}
 
 abbrev pub lacks : List Item → Bool
 lacks items = list_any is_missing items
@@ -28,10 +29,6 @@ until_whole [] held = refl
 until_whole (x ∷ xs) held =
     let parts = or_parts (is_missing x) (lacks xs) held in
     ap (λ b. x ∷ cond b [] (until_missing xs)) parts.0 ∙ ap (λ l. x ∷ l) (until_whole xs parts.1)
-
--- the items that follow others; none if a file of those others is missing
-abbrev pub following : Bool → List Item → List Item
-following missing items = cond missing [] items
 
 pub until_parts : (xs ys : List Item) → until_missing (xs ++ ys) ≡ until_missing xs ++ following (lacks xs) (until_missing ys)
 until_parts [] ys = refl

@@ -35,12 +35,13 @@ use Rattle.root_folder.specs.Whole.{IsWhole}
 use Rattle.seen_tree.proofs.Same.{seen_parts}
 use Rattle.seen_tree.specs.Part.{AreSeen, IsPart, IsSeen, listed}
 use Rattle.soname_links.proofs.Named.{is_dir_kind}
-use Rattle.string_pool.proofs.Members.{is_in, itself, kept_in}
+use Rattle.string_pool.proofs.Members.{is_in, kept_in}
 use Rattle.seen_places.proofs.Each.{all_both, seen_at}
 use Rattle.seen_places.proofs.Entries.{winners_seen}
 use Rattle.seen_places.proofs.Sonames.{no_node, soname_seen}
 use Rattle.seen_places.specs.Entries.{entries_looked, soname_looked, sonames_looked}
 use Rattle.seen_places.specs.Looked.{followed_looked, links_looked, names_looked, wanted_looked}
+use Rattle.lib_types.proofs.SameTexts.{itself}
 
 -- Each library's soname is a library name or passes the test. The soname of a library without DT_SONAME is the name of its file.
 abbrev pub HasSonames : (List ℕ → Bool) → Analyses → Type 0

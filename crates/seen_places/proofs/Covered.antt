@@ -50,9 +50,10 @@ use Rattle.string_pool.proofs.Members.{is_in, kept_in}
 use Rattle.seen_places.proofs.Each.{all_both}
 use Rattle.seen_places.proofs.Planned.{not_put, whole_planned}
 use Rattle.seen_places.proofs.Sonames.{child_of_node, soname_seen}
-use Rattle.seen_places.proofs.Through.{IsNear, components_alone, planned_at, same_kind, unput_both, walk_goes}
+use Rattle.seen_places.proofs.Through.{IsNear, planned_at, same_kind, unput_both, walk_goes}
 use Rattle.seen_places.specs.Looked.{followed_looked, link_at_looked, link_looked, links_looked, names_looked, wanted_looked}
 use Rattle.seen_places.specs.Planned.{is_put, planned_looked, unput}
+use Rattle.path_walk.proofs.Alone.{components_alone, of_folder}
 
 -- ---- the file of a planned link
 
@@ -145,13 +146,6 @@ of_flat t part d z (name ∷ names) all h =
     (λ e. subst (λ n. AreSeen t part (link_at_looked t d n)) (sym ((bytes_eq-Decides z name).0 e)) parts.0)
     (λ e. of_flat t part d z names parts.1 (sym (ap (λ b. b || is_in names z) e) ∙ h))
 
-stem_names : (text : List ℕ) → components (stem text) ≡ components text
-stem_names text = by_test (bytes_eq text root)
-    (λ e.
-    let same : text ≡ root = (bytes_eq-Decides text root).0 e in
-    ap (λ b. components (cond b [] text)) e ∙ ap components (sym same))
-    (λ e. ap (λ b. components (cond b [] text)) e)
-
 -- a search directory, of which the names were seen, the way to it and the links in it
 module _ (t part : Nodes) (whole : IsWhole t) (is : IsPart t part) (tree : IsTree part) (d : List ℕ) (dir : kind_at t d ≡ kinds.Dir)
     (names : AreSeen t part (listed is_library_name t d)) (way : AreSeen t part (looked_by t d Full)) where
@@ -161,7 +155,7 @@ module _ (t part : Nodes) (whole : IsWhole t) (is : IsPart t part) (tree : IsTre
   way_passed : AreSeen t part (passed t (components (stem d)) root)
   unfolding looked_by
   way_passed =
-      subst (λ l. AreSeen t part (passed t l root)) (sym (stem_names d)) (seen_parts t part (passed t (components d) root) (walked t Full 40 (steps t Full (components d) root)) way).0
+      subst (λ l. AreSeen t part (passed t l root)) (sym (of_folder d)) (seen_parts t part (passed t (components d) root) (walked t Full 40 (steps t Full (components d) root)) way).0
 
   way_ends : steps t Full (components (stem d)) root ≡ Ends (Ok d)
   way_ends =

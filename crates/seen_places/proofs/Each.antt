@@ -9,11 +9,12 @@ use Rattle.image_tree.specs.Paths.{join}
 use Rattle.image_tree.specs.Tree.{Nodes, children_of}
 use Rattle.root_folder.specs.Whole.{IsWhole}
 use Rattle.string_pool.proofs.InByteOrder.{in_ascending}
-use Rattle.string_pool.proofs.Members.{is_in, itself, left_out}
+use Rattle.string_pool.proofs.Members.{is_in, left_out}
 use Rattle.string_pool.specs.Order.{ascending}
 use Rattle.seen_tree.proofs.Children.{names_seen}
 use Rattle.seen_tree.proofs.Same.{seen_parts}
 use Rattle.seen_tree.specs.Part.{AreSeen, IsPart, IsSeen, listed}
+use Rattle.lib_types.proofs.SameTexts.{itself}
 
 -- ---- a property of each item
 

@@ -14,9 +14,10 @@ use Rattle.file_stamps.specs.Stamped.{id_at, id_in, of_stamp, stamp_at, stamp_by
 use Rattle.file_table.specs.Analyses.{Analyses, AgreeOn}
 use Rattle.image_tree.specs.Tree.{Nodes}
 use Rattle.tree_face.specs.Store.{Contents}
-use Rattle.string_pool.proofs.Members.{is_in, itself}
+use Rattle.string_pool.proofs.Members.{is_in}
 use Rattle.seen_tree.specs.Part.{AreSeen, IsSeen}
 use Rattle.seen_places.proofs.Each.{of_all}
+use Rattle.lib_types.proofs.SameTexts.{itself}
 
 module _ (t part : Nodes) where
   -- the first of the paths that were seen

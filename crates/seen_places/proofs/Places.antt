@@ -1,5 +1,5 @@
 -- If the paths of the search directories were seen, the part has the same search directories as the tree.
-use Rattle.std.proofs.Common.{◌≡◌, ℕ, Bool, true, false, cond, not, List, [], ◌∷◌, ◌++◌, filter, flat_map, refl, ap, ◌∙◌, Option, Some, None, Result, Ok, Err}
+use Rattle.std.proofs.Common.{◌≡◌, ℕ, false, cond, List, [], ◌∷◌, ◌++◌, filter, flat_map, refl, ap, ◌∙◌, Option, Some, None, Result, Ok, Err}
 use Rattle.std.specs.Option.{is_none, option_map}
 use Rattle.hwcap_dirs.specs.Places.{Led, absent, builtin_dirs, dir_at, dir_by, firsts, hwcap_place, hwcap_places, hwcaps, is_dir, is_hidden, kept, led_at, place_of_name, places, places_below, places_of}
 use Rattle.hwcap_dirs.specs.declared.kinds.Scope.{Scope}
@@ -14,14 +14,11 @@ use Rattle.seen_tree.proofs.Same.{end_seen, kind_seen, seen_parts, text_seen}
 use Rattle.seen_tree.specs.Part.{AreSeen, IsPart, IsSeen, listed, looked_by}
 use Rattle.seen_places.proofs.Each.{all_both, children_seen, each_seen, filter_map_seen, flat_same}
 use Rattle.seen_places.specs.Looked.{below_looked, caps_looked, hwcaps_looked, is_shown, places_looked, texts_looked}
-
-shown_not : (b : Bool) → not b ≡ false → b ≡ true
-shown_not true h = refl
-shown_not false h = absurd (cc)
+use Rattle.lib_types.proofs.Bools.{not_false}
 
 -- a hidden name is that of no search directory
 hidden_none : (t : Nodes) (folder name : List ℕ) → is_shown name ≡ false → place_of_name t folder name ≡ None
-hidden_none t folder name h = ap (λ b. cond b None (hwcap_place (join folder name) name (dir_at t (join folder name)))) (shown_not (is_hidden name) h)
+hidden_none t folder name h = ap (λ b. cond b None (hwcap_place (join folder name) name (dir_at t (join folder name)))) (not_false (is_hidden name) h)
 
 module _ (t part : Nodes) (whole : IsWhole t) (is : IsPart t part) where
   -- ---- the directory, or the file, that a path resolves to

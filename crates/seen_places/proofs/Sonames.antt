@@ -1,5 +1,5 @@
 -- A library name that a search directory lacks has no node there, in the tree and in the part: it need not be looked up.
-use Rattle.std.proofs.Common.{◌≡◌, ℕ, Bool, true, false, not, ◌&&◌, ◌||◌, ◌==◌, List, [], ◌∷◌, filter, length, refl, ap, sym, ◌∙◌, Option, Some, None}
+use Rattle.std.proofs.Common.{◌≡◌, ℕ, Bool, true, false, ◌&&◌, ◌||◌, List, [], ◌∷◌, filter, length, refl, ap, sym, ◌∙◌, Option, Some, None}
 use Rattle.std.proofs.lemmas.Bool.{and_from, and_parts, false≢true}
 use Rattle.std.proofs.lemmas.Bool.Decides.{Decides-eqb}
 use Rattle.std.proofs.lemmas.List.{drop_at}
@@ -7,24 +7,18 @@ use Rattle.std.proofs.lemmas.Slice.Eq.{bytes_eq-Decides, starts_is}
 use Rattle.std.specs.List.{dedup, list_any}
 use Rattle.std.specs.Str.{bytes_eq}
 use Rattle.image_tree.proofs.Above.{found_any}
-use Rattle.image_tree.proofs.Rising.{first_name, name_goes_on}
+use Rattle.image_tree.proofs.Rising.{first_name}
 use Rattle.image_tree.specs.Paths.{folder, is_below, join, name_after}
 use Rattle.image_tree.specs.Tree.{Nodes, children_of, kind_at, names_below, node_at, of_dir}
 use Rattle.image_tree.specs.declared.node.Node.{Node}
 use Rattle.image_tree.specs.declared.tree.Kind.TheVariants as kinds
-use Rattle.lib_types.proofs.Bools.{not_true}
 use Rattle.lib_types.proofs.SortedPairs.{by_test}
-use Rattle.lib_types.specs.Name.{have_no_slash, is_name, slash}
+use Rattle.lib_types.specs.Name.{have_no_slash, is_name}
 use Rattle.name_order.specs.LibraryName.{is_library_name}
 use Rattle.string_pool.proofs.Members.{dedup_in, is_in, kept_in}
 use Rattle.seen_tree.specs.Part.{AreSeen, IsPart, IsSeen, listed}
 use Rattle.seen_places.proofs.Each.{seen_at}
-
-first_alone : (name : List ℕ) → have_no_slash name ≡ true → first_name name ≡ name
-first_alone [] h = refl
-first_alone (b ∷ name) h =
-    let parts = and_parts (not (b == slash) && not (b == 0)) (have_no_slash name) h in
-    name_goes_on b name (not_true (b == slash) (and_parts _ _ parts.0).0) ∙ ap (λ z. b ∷ z) (first_alone name parts.1)
+use Rattle.path_walk.proofs.Last.{first_alone}
 
 module _ (t : Nodes) (d : List ℕ) (dir : kind_at t d ≡ kinds.Dir) (z : List ℕ) (named : is_name z ≡ true) where
   -- the path continues from the directory by the name

@@ -10,13 +10,13 @@ use Rattle.image_tree.specs.Paths.{is_path}
 use Rattle.image_tree.specs.Tree.{Nodes}
 use Rattle.lib_types.proofs.SortedPairs.{by_test}
 use Rattle.link_plan.specs.declared.kinds.Planned.{Planned}
-use Rattle.string_pool.proofs.Members.{itself}
 use Rattle.seen_tree.specs.Part.{AreSeen, IsSeen}
 use Rattle.seen_tree.specs.Seen.{IsSeenOf, Seen, with_path, with_paths}
 use Rattle.soname_links.specs.Plan.{links, with_link, with_links}
 use Rattle.seen_places.proofs.Each.{all_both}
 use Rattle.seen_places.proofs.Planned.{all_with, part_planned, put_seen, whole_planned}
 use Rattle.seen_places.specs.Planned.{is_put, with_plan}
+use Rattle.lib_types.proofs.SameTexts.{itself}
 
 paths_put : (plan : List Planned) (t part : Nodes) → AreSeen (with_links t plan) (with_links part plan) (map (λ planned. planned.path) plan)
 paths_put [] t part = tt

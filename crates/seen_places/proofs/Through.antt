@@ -1,15 +1,14 @@
 -- A walk in the tree with the planned links passes paths that a walk in the tree passes, planned links, and the files that these name.
-use Rattle.std.proofs.Common.{◌≡◌, ◌⊎◌, inl, inr, ℕ, zero, suc, Bool, true, false, cond, not, ◌&&◌, ◌||◌, ◌==◌, nat_eq, List, [], ◌∷◌, ◌++◌, codes, filter, refl, ap, sym, subst, ◌∙◌, Option, Some, None, Ok, Err, arith}
+use Rattle.std.proofs.Common.{◌≡◌, ◌⊎◌, inl, inr, ℕ, zero, suc, Bool, true, false, cond, not, ◌&&◌, ◌||◌, ◌==◌, nat_eq, List, [], ◌∷◌, ◌++◌, codes, refl, ap, sym, subst, ◌∙◌, Option, Some, None, Ok, Err, arith}
 use Rattle.std.proofs.lemmas.Bool.{and_parts}
 use Rattle.std.proofs.lemmas.Bool.Decides.{nat_tests}
 use Rattle.std.proofs.lemmas.List.{append_cancel_right}
-use Rattle.std.proofs.lemmas.List.Splits.{slice_split-cons_no, slice_split-cons_yes}
 use Rattle.std.proofs.lemmas.Slice.Eq.{bytes_eq-Decides}
-use Rattle.std.specs.List.{AllByRecursion, onto_first, slice_split, starts_with}
+use Rattle.std.specs.List.{AllByRecursion, starts_with}
 use Rattle.std.specs.Str.{bytes_eq}
 use Rattle.image_tree.proofs.Above.{found_entry}
 use Rattle.image_tree.proofs.OneMore.{put_here}
-use Rattle.image_tree.specs.Paths.{components, folder, is_kept, is_path, is_slash, join, root}
+use Rattle.image_tree.specs.Paths.{components, folder, is_path, join, root}
 use Rattle.image_tree.specs.Tree.{Nodes, has_below, kind_at, kind_there, node_at}
 use Rattle.image_tree.specs.declared.node.Node.{Node}
 use Rattle.image_tree.specs.declared.node.Node.TheVariants as node
@@ -32,37 +31,9 @@ use Rattle.seen_tree.specs.Part.{AreSeen, IsSeen, below, passed, walked}
 use Rattle.soname_links.specs.Plan.{with_link, with_links}
 use Rattle.seen_places.proofs.Planned.{not_put}
 use Rattle.seen_places.specs.Planned.{is_put, unput}
+use Rattle.path_walk.proofs.Alone.{IsAlone, AreAlone, components_alone, both_alone}
 
 -- ---- texts without a slash
-
-abbrev pub IsAlone : List ℕ → Type 0
-IsAlone name = slice_split is_slash name ≡ name ∷ []
-
-abbrev pub AreAlone : List (List ℕ) → Type 0
-AreAlone = AllByRecursion IsAlone
-
-one_more : (x : ℕ) (parts : List (List ℕ)) → is_slash x ≡ false → AreAlone parts → AreAlone (onto_first x parts)
-one_more x [] e all = (slice_split-cons_no is_slash x [] e, tt)
-one_more x (part ∷ parts) e all = (slice_split-cons_no is_slash x part e ∙ ap (onto_first x) all.0, all.1)
-
-parts_alone : (text : List ℕ) → AreAlone (slice_split is_slash text)
-parts_alone [] = (refl, tt)
-parts_alone (x ∷ text) = by_test (is_slash x)
-    (λ e. rw (slice_split-cons_yes is_slash x text e) (refl, parts_alone text))
-    (λ e. rw (slice_split-cons_no is_slash x text e) (one_more x (slice_split is_slash text) e (parts_alone text)))
-
-kept_alone : (parts : List (List ℕ)) → AreAlone parts → AreAlone (filter is_kept parts)
-kept_alone [] all = tt
-kept_alone (part ∷ parts) all = by_test (is_kept part)
-    (λ e. rw e (all.0, kept_alone parts all.1))
-    (λ e. rw e (kept_alone parts all.1))
-
-pub components_alone : (text : List ℕ) → AreAlone (components text)
-components_alone text = kept_alone (slice_split is_slash text) (parts_alone text)
-
-both_alone : (names more : List (List ℕ)) → AreAlone names → AreAlone more → AreAlone (names ++ more)
-both_alone [] more all rest = rest
-both_alone (name ∷ names) more all rest = (all.0, both_alone names more all.1 rest)
 
 -- two paths of one directory
 next_to : (place d name soname file : List ℕ) → IsAlone name → is_name soname ≡ true → join place name ≡ join d soname → join place file ≡ join d file

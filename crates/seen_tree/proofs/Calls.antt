@@ -17,14 +17,12 @@ use Rattle.tree_face.proofs.Known.{relates_on}
 use Rattle.tree_face.specs.Follows.{IsFollowedBy}
 use Rattle.tree_face.specs.Known.{Relates}
 use Rattle.seen_tree.specs.Seen.{ListsMore, LooksMore, Makes, dir_of, dirs_of, path_of, paths_of}
+use Rattle.lib_types.proofs.Counts.{raised_on}
 
 -- ---- calls
 
 pub raised_none : (c : ℕ) → c ≡ raised c 0
 raised_none c = omega arith
-
-raised_on : (c a b : ℕ) → raised (raised c a) b ≡ raised c (a + b)
-raised_on c a b = omega arith
 
 none_follows : (a : Option (List FolderCall)) → Relates (IsFollowedBy []) a a
 none_follows None = tt

@@ -1,5 +1,5 @@
 -- In a directory that was listed, the part and the tree have the same names that pass the test.
-use Rattle.std.proofs.Common.{◌≡◌, ◌⊎◌, inl, inr, ⊎_elim, get_or, ℕ, Bool, true, false, cond, not, ◌&&◌, ◌||◌, List, [], ◌∷◌, ◌++◌, append_assoc, length, drop, filter, map, refl, ap, sym, subst, ◌∙◌, Option, Some}
+use Rattle.std.proofs.Common.{◌≡◌, ◌⊎◌, inl, inr, ⊎_elim, get_or, ℕ, Bool, true, cond, not, ◌&&◌, ◌||◌, List, [], ◌∷◌, ◌++◌, append_assoc, length, drop, filter, map, refl, ap, sym, subst, ◌∙◌, Option, Some}
 use Rattle.std.proofs.lemmas.Bool.{and_from, and_parts, cases_lt, eqb-true}
 use Rattle.std.proofs.lemmas.Bool.Decides.{Decides-eqb}
 use Rattle.std.proofs.lemmas.List.{drop_at, take_all}
@@ -29,6 +29,7 @@ use Rattle.string_pool.proofs.Members.{dedup_in, is_in, kept_in, same_members}
 use Rattle.seen_tree.proofs.Found.{any_found}
 use Rattle.seen_tree.proofs.Same.{kind_seen}
 use Rattle.seen_tree.specs.Part.{AreSeen, IsPart, IsSeen, listed}
+use Rattle.lib_types.proofs.Bools.{both_ways}
 
 -- ---- paths below a directory whose next name is `z`
 
@@ -101,11 +102,6 @@ module _ (t : Nodes) (whole : IsWhole t) (d : List ℕ) (dir : kind_at t d ≡ k
       (to_name d z one.path one.passes)
 
 -- ---- a part of the tree
-
-both_ways : (a b : Bool) → (a ≡ true → b ≡ true) → (b ≡ true → a ≡ true) → a ≡ b
-both_ways true b there back = sym (there refl)
-both_ways false true there back = back refl
-both_ways false false there back = refl
 
 by_kind : (k : Kind) → (k ≡ kinds.Dir) ⊎ ((names : List (List ℕ)) → of_dir k names ≡ [])
 by_kind kinds.Dir = inl refl

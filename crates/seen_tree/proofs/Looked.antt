@@ -1,5 +1,5 @@
 -- The paths that were looked up, and the part of the tree that was seen there.
-use Rattle.std.proofs.Common.{◌≡◌, ◌⊎◌, inl, inr, ◌≤◌, ℕ, Bool, true, false, cond, ◌&&◌, ◌||◌, not, fold, List, [], ◌∷◌, ◌++◌, refl, ap, sym, subst, ◌∙◌, Option, Some, None}
+use Rattle.std.proofs.Common.{◌≡◌, ◌⊎◌, inl, inr, ◌≤◌, ℕ, Bool, true, false, cond, ◌&&◌, ◌||◌, not, fold, List, [], ◌∷◌, ◌++◌, refl, ap, sym, subst, ◌∙◌, Option, Some, None, ◌+◌}
 use Rattle.std.proofs.Math.Bool.{or-true}
 use Rattle.std.proofs.lemmas.Bool.{and_from, and_parts, false≢true, or_parts}
 use Rattle.std.proofs.lemmas.List.Folds.{list_any-append}
@@ -22,12 +22,11 @@ use Rattle.root_folder.specs.Whole.{IsWhole}
 use Rattle.tree_face.specs.Known.{IfKnown}
 use Rattle.seen_tree.proofs.WithNode.{no_clash, others_seen, part_with, seen_here}
 use Rattle.seen_tree.specs.Part.{AreSeen, IsPart, IsSeen, KeepsNodes}
-use Rattle.seen_tree.specs.Seen.{HasSeen, IsSeenOf, Seen, are_looked, is_looked, seen, with_found, with_path, with_paths}
+use Rattle.seen_tree.specs.Seen.{HasSeen, IsSeenOf, Seen, are_looked, is_looked, seen, with_found, with_path, with_paths, with_dirs}
+use Rattle.lib_types.proofs.SameTexts.{itself}
+use Rattle.std.proofs.lemmas.List.Sums.{fold-append}
 
 -- ---- the paths that were looked up
-
-itself : (x : List ℕ) → bytes_eq x x ≡ true
-itself x = (bytes_eq-Decides x x).1 refl
 
 key_in : (q : List ℕ) (looked : List (List ℕ)) → list_any (bytes_eq q) (insert_key bytes_eq looked q) ≡ true
 key_in q looked = by_test (list_any (bytes_eq q) looked)
@@ -200,3 +199,9 @@ full_by_paths most paths nodes h = inl h
 
 pub full_by_nodes : (most paths nodes : ℕ) → most ≤ nodes → (most ≤ paths) ⊎ (most ≤ nodes)
 full_by_nodes most paths nodes h = inr h
+
+pub two_paths : (looked xs ys : List (List ℕ)) → with_paths looked (xs ++ ys) ≡ with_paths (with_paths looked xs) ys
+two_paths looked xs ys = fold-append with_path looked xs ys
+
+pub two_dirs : (dirs xs ys : List (List ℕ)) → with_dirs dirs (xs ++ ys) ≡ with_dirs (with_dirs dirs xs) ys
+two_dirs dirs xs ys = fold-append (insert_key bytes_eq) dirs xs ys

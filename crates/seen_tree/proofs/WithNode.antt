@@ -19,9 +19,7 @@ use Rattle.root_folder.proofs.Dirs.{dir_above}
 use Rattle.root_folder.specs.Whole.{IsWhole}
 use Rattle.seen_tree.proofs.Found.{IsFoundBy, any_found}
 use Rattle.seen_tree.specs.Part.{IsPart, IsSeen}
-
-by_some : {a b : Node} → Some a ≡ Some b → a ≡ b
-by_some e = cc
+use Rattle.image_tree.proofs.FoundNodes.{by_some}
 
 -- ---- a node of the tree
 

@@ -19,6 +19,7 @@ use Rattle.soname_links.specs.Marks.{is_odd, mixed_among, odd_soname}
 use Rattle.soname_links.specs.Survey.{group_at, group_with, groups, extended, mixed_soname, with_library}
 use Rattle.soname_links.specs.declared.groups.Group.{Group}
 use Rattle.place_libraries.specs.Library.{Library}
+use Rattle.lib_types.proofs.SameTexts.{turned}
 
 -- ---- the libraries of one soname
 
@@ -106,13 +107,6 @@ group_mixed (library ∷ libraries) =
     and_true false = refl
 
 -- ---- the sonames
-
-turned : (x z : List ℕ) → bytes_eq z x ≡ bytes_eq x z
-turned x z = by_test (bytes_eq x z)
-    (λ e. let same : x ≡ z = (bytes_eq-Decides x z).0 e in (bytes_eq-Decides z x).1 (sym same) ∙ sym e)
-    (λ e. by_test (bytes_eq z x)
-    (λ f. let same : z ≡ x = (bytes_eq-Decides z x).0 f in let there : bytes_eq x z ≡ true = (bytes_eq-Decides x z).1 (sym same) in absurd (cc))
-    (λ f. f ∙ sym e))
 
 module _ (z : List ℕ) where
   -- a soname is there if a library has it

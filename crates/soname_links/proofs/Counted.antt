@@ -22,6 +22,7 @@ use Rattle.string_pool.specs.Order.{ascending}
 use Rattle.soname_links.specs.Plan.{with_link, with_links}
 use Rattle.link_plan.specs.declared.kinds.Planned.{Planned}
 use Rattle.string_pool.proofs.InByteOrder.{count_more}
+use Rattle.string_pool.proofs.Counted.{none_there}
 
 -- ---- the nodes
 
@@ -90,16 +91,12 @@ module _ (t : Nodes) (planned : Planned) where
       ap (λ o. cons_option o (filter_map (new_path s) plan)) (path_by s other false (none_elsewhere other.path e ∙ n)) ∙ others_new none plan
       ∙ sym (ap (λ o. filter keep (cons_option o rest)) (path_by t other false n))))
 
-none_ascending : length (ascending []) ≡ 0
-unfolding ascending
-none_ascending = refl
-
 abbrev count_of : List (List ℕ) → ℕ
 count_of paths = length (ascending paths)
 
 -- the tree with the links has the nodes that it had, and those at new paths
 pub nodes_counted : (plan : List Planned) (t : Nodes) → IsPathSorted t → nodes_with t plan ≡ length (with_links t plan)
-nodes_counted [] t sorted = let none = none_ascending in omega arith
+nodes_counted [] t sorted = let none = none_there in omega arith
 nodes_counted (planned ∷ plan) t sorted =
     let s = with_link t planned in
     let rest = filter_map (new_path t) plan in

@@ -66,7 +66,7 @@ stem_same p q (inl a) (inr b) e = absurd (not_empty q b.1 (sym (stem_below q b.0
 stem_same p q (inr a) (inl b) e = absurd (not_empty p a.1 (sym (stem_below p a.0) ∙ e ∙ stem_root q b))
 stem_same p q (inr a) (inr b) e = sym (stem_below p a.0) ∙ e ∙ stem_below q b.0
 
-no_slash_in : (name : List ℕ) → is_name name ≡ true → have_no_slash name ≡ true
+pub no_slash_in : (name : List ℕ) → is_name name ≡ true → have_no_slash name ≡ true
 no_slash_in name h = (and_parts _ _ (and_parts _ _ h).0).1
 
 -- one path is that of one name in one directory

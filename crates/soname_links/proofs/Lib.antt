@@ -3,7 +3,7 @@ pub mod Clear
 pub mod Counted
 mod Grouped
 mod InStep
-mod Joined
+pub mod Joined
 pub mod KindsAt
 mod Linked
 pub mod Links

@@ -1,12 +1,12 @@
 -- A tree with one link more, where no file or directory was: the files with library names in a directory.
-use Rattle.std.proofs.Common.{◌≡◌, ⊎_elim, get_or, ℕ, Bool, true, false, cond, not, ◌&&◌, List, ◌∷◌, ◌++◌, append_assoc, length, drop, refl, ap, sym, subst, ◌∙◌, Option, Some, None}
+use Rattle.std.proofs.Common.{◌≡◌, ⊎_elim, get_or, ℕ, true, false, cond, not, ◌&&◌, List, ◌∷◌, ◌++◌, append_assoc, length, drop, ap, sym, subst, ◌∙◌, Option, Some, None}
 use Rattle.std.proofs.lemmas.Bool.{cases_lt, eqb-true}
 use Rattle.std.proofs.lemmas.List.{take_all}
 use Rattle.std.proofs.lemmas.List.Sums.{passes_at_first, split_at_first}
 use Rattle.std.proofs.lemmas.Slice.Eq.{bytes_eq-Decides}
 use Rattle.std.specs.List.{after_first, dedup, filter_map, position_or_len}
 use Rattle.std.specs.Str.{bytes_eq}
-use Rattle.lib_types.proofs.Bools.{and_false}
+use Rattle.lib_types.proofs.Bools.{and_false, not_false}
 use Rattle.lib_types.proofs.SortedPairs.{by_test, sorted_put}
 use Rattle.lib_types.specs.Name.{slash}
 use Rattle.name_order.specs.LibraryName.{is_library_name}
@@ -26,10 +26,6 @@ use Rattle.path_walk.specs.Files.{is_file}
 use Rattle.library_files.specs.Children.{is_file_node}
 use Rattle.library_files.specs.Search.{file_in}
 use Rattle.soname_links.proofs.KindsAt.{dir_kept, file_in_same, file_node, is_open, no_file, none_above, some_file}
-
-not_false : (b : Bool) → not b ≡ false → b ≡ true
-not_false true h = refl
-not_false false h = absurd (cc)
 
 -- ---- the names in a directory
 

@@ -12,10 +12,7 @@ use Rattle.string_pool.specs.Order.{ascending}
 use Rattle.image_tree.specs.Tree.{Nodes, node_at}
 use Rattle.soname_links.specs.Apply.{is_at_path, is_last_new, new_path, new_paths}
 use Rattle.link_plan.specs.declared.kinds.Planned.{Planned}
-
-abbrev pub one_if : Bool → ℕ
-one_if true = 1
-one_if false = 0
+use Rattle.lib_types.proofs.Bools.{one_if}
 
 module _ (t : Nodes) where
   -- among the new paths is one without a node, if a link has it

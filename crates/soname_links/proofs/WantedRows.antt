@@ -10,12 +10,13 @@ use Rattle.std.specs.Str.{bytes_eq}
 use Rattle.hwcap_dirs.specs.declared.kinds.Place.{Place}
 use Rattle.image_tree.specs.Tree.{Nodes}
 use Rattle.string_pool.proofs.InByteOrder.{ascending_sorted}
-use Rattle.string_pool.proofs.Members.{is_in, itself}
+use Rattle.string_pool.proofs.Members.{is_in}
 use Rattle.file_table.specs.Analyses.{Analyses, AgreeOn}
 use Rattle.place_libraries.specs.Rows.{AreOfPlaces}
 use Rattle.file_table.specs.Analyses.{analysed}
 use Rattle.library_files.specs.Search.{files_in, wanted}
 use Rattle.file_table.specs.Table.{Rows, analysis_at}
+use Rattle.lib_types.proofs.SameTexts.{itself}
 
 analysed_agree : (what new : Analyses) (paths : List (List ℕ)) → AgreeOn paths what new → analysed new paths ≡ analysed what paths
 analysed_agree what new [] same = refl

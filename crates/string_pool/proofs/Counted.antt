@@ -38,7 +38,7 @@ module _ (x : List ℕ) (xs : List (List ℕ)) where
       (λ e. let same = ap length (known e) in rw e (omega (arith, same)))
       (λ e. let same = ap length (others e) in let more = count_more x xs in rw e (omega (arith, same, more)))
 
-none_there : length (ascending []) ≡ 0
+pub none_there : length (ascending []) ≡ 0
 unfolding ascending
 none_there = refl
 

@@ -13,13 +13,11 @@ use Rattle.std.specs.Ordering.{is_eq, match_ordering, nat_cmp}
 use Rattle.std.specs.Str.{bytes_eq}
 use Rattle.std.specs.declared.cmp.Ordering.TheVariants.{Less, Equal, Greater}
 use Rattle.lib_types.proofs.SortedPairs.{by_ordering, by_test, flipped}
-use Rattle.string_pool.proofs.Members.{AreSorted, dedup_in, is_in, itself, kept_in, same_members}
+use Rattle.string_pool.proofs.Members.{AreSorted, dedup_in, is_in, kept_in, same_members, cmp}
 use Rattle.string_pool.proofs.Ordered.{all_below}
 use Rattle.string_pool.proofs.Either.{swapped, twice}
 use Rattle.string_pool.specs.Order.{ascending, with_text}
-
-abbrev cmp : List ℕ → List ℕ → Ordering
-cmp = slice_cmp nat_cmp
+use Rattle.lib_types.proofs.SameTexts.{itself}
 
 text_put : (k x : List ℕ) (ks : List (List ℕ)) (r : Ordering) → cmp k x ≡ r → with_text (x ∷ ks) k ≡ match_ordering r (k ∷ x ∷ ks) (x ∷ ks) (x ∷ with_text ks k)
 text_put k x ks r h = ap (λ o. match_ordering o (k ∷ x ∷ ks) (x ∷ ks) (x ∷ with_text ks k)) h

@@ -1,5 +1,5 @@
 -- Sorted texts with the same members are the same.
-use Rattle.std.proofs.Common.{◌≡◌, ℕ, Bool, true, false, ◌&&◌, ◌||◌, List, [], ◌∷◌, refl, ap, sym, ◌∙◌, Option, None, Ordering, subst}
+use Rattle.std.proofs.Common.{◌≡◌, ℕ, Bool, true, false, ◌&&◌, ◌||◌, List, [], ◌∷◌, refl, ap, sym, ◌∙◌, Option, None, subst, Ordering}
 use Rattle.std.proofs.lemmas.Cmp.{nat_list_cmp_total, tied_itself}
 use Rattle.std.proofs.lemmas.Map.Keys.{sorted_head, sorted_tail}
 use Rattle.std.proofs.lemmas.Map.Views.{any-filter_same}
@@ -15,8 +15,9 @@ use Rattle.lib_types.proofs.SortedPairs.{by_ordering, by_test, flipped}
 use Rattle.string_pool.proofs.Ordered.{all_below}
 use Rattle.string_pool.proofs.Either.{twice}
 use Rattle.std.proofs.lemmas.Bool.{and_parts}
+use Rattle.lib_types.proofs.SameTexts.{itself}
 
-abbrev cmp : List ℕ → List ℕ → Ordering
+abbrev pub cmp : List ℕ → List ℕ → Ordering
 cmp = slice_cmp nat_cmp
 
 abbrev pub AreSorted : List (List ℕ) → Type 0
@@ -24,9 +25,6 @@ AreSorted xs = IsStrictlySortedBy (slice_cmp nat_cmp) xs
 
 abbrev pub is_in : List (List ℕ) → List ℕ → Bool
 is_in xs z = list_any (bytes_eq z) xs
-
-pub itself : (x : List ℕ) → bytes_eq x x ≡ true
-itself x = (bytes_eq-Decides x x).1 refl
 
 is_first : (x : List ℕ) (xs : List (List ℕ)) → is_in (x ∷ xs) x ≡ true
 is_first x xs = ap (λ b. b || is_in xs x) (itself x)

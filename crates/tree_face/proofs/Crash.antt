@@ -7,6 +7,7 @@ use Rattle.tree_face.specs.declared.disk.Slot.TheVariants.{Manifest, Cache, Aux}
 use Rattle.tree_face.specs.Crash.{GoesOn, HasMoments, Leaves, LeavesAtMost, LeavesMore, LeavesOthers, LeavesSame}
 use Rattle.tree_face.specs.Disk.{Content, DiskContent, DiskState, content_eq, slot_eq}
 use Rattle.tree_face.specs.Known.{IfKnown}
+use Rattle.lib_types.proofs.Bools.{or_assoc, or_true}
 
 -- contents that compare equal are equal
 pub content_is : (c x : Content) → content_eq c x ≡ true → c ≡ x
@@ -30,14 +31,6 @@ slot_is Cache Manifest e = absurd (false≢true e)
 slot_is Cache Aux e = absurd (false≢true e)
 slot_is Aux Manifest e = absurd (false≢true e)
 slot_is Aux Cache e = absurd (false≢true e)
-
-or_assoc : (a b c : Bool) → ((a || b) || c) ≡ (a || (b || c))
-or_assoc true b c = refl
-or_assoc false b c = refl
-
-or_true : (a b : Bool) → (a || b) ≡ true → (a ≡ true) ⊎ (b ≡ true)
-or_true true b e = inl refl
-or_true false b e = inr e
 
 or_at : (a b c : Bool) → (a || b) ≡ true → (b ≡ true → c ≡ true) → (a || c) ≡ true
 or_at true b c e f = refl

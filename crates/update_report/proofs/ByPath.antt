@@ -4,12 +4,11 @@ use Rattle.std.proofs.lemmas.Cmp.{nat_list_cmp_total}
 use Rattle.std.proofs.lemmas.Map.Keys.{sorted_head, sorted_tail}
 use Rattle.std.proofs.lemmas.Slice.Eq.{bytes_eq-Decides}
 use Rattle.std.specs.BTreeMap.{insert_entry}
-use Rattle.std.specs.Cmp.Lexicographic.{slice_cmp}
 use Rattle.std.specs.List.{AllByRecursion, IsDistinct, cons_option, filter_map, fold}
 use Rattle.std.specs.List.Sorted.{IsStrictlySortedBy}
 use Rattle.std.specs.Map.{keys_of}
 use Rattle.std.specs.Option.{option_and_then, option_map}
-use Rattle.std.specs.Ordering.{match_ordering, nat_cmp}
+use Rattle.std.specs.Ordering.{match_ordering}
 use Rattle.std.specs.Str.{bytes_eq}
 use Rattle.std.specs.declared.cmp.Ordering.TheVariants.{Less, Equal, Greater}
 use Rattle.lib_types.proofs.SortedPairs.{by_ordering, by_test, sorted_put}
@@ -17,16 +16,14 @@ use Rattle.lib_types.specs.declared.analysis.Analysis.{Analysis}
 use Rattle.lib_types.specs.declared.analysis.Analysis.TheVariants.{Lib, Not}
 use Rattle.lib_types.specs.declared.analysis.Defect.{Defect}
 use Rattle.string_pool.proofs.InByteOrder.{same_text}
-use Rattle.string_pool.proofs.Members.{AreSorted, itself}
+use Rattle.string_pool.proofs.Members.{AreSorted, cmp}
 use Rattle.string_pool.proofs.Ordered.{all_below, keys_put}
 use Rattle.file_table.specs.Analyses.{Analyses}
 use Rattle.string_pool.specs.Order.{ascending, with_text}
 use Rattle.file_table.specs.Table.{Rows, analysis_at}
 use Rattle.update_report.specs.ByPath.{Defects, skip_of, with_row}
 use Rattle.update_report.specs.Skips.{skip_at}
-
-abbrev cmp : List ℕ → List ℕ → Ordering
-cmp = slice_cmp nat_cmp
+use Rattle.lib_types.proofs.SameTexts.{itself}
 
 abbrev defect_of : Analysis → Option Defect
 defect_of (Not defect) = Some defect

@@ -4,9 +4,10 @@ use Rattle.std.proofs.lemmas.Bool.{or_left, or_right}
 use Rattle.std.specs.List.{cons_option, filter_map}
 use Rattle.std.specs.Option.{option_and_then}
 use Rattle.std.specs.Str.{bytes_eq}
-use Rattle.string_pool.proofs.Members.{is_in, itself}
+use Rattle.string_pool.proofs.Members.{is_in}
 use Rattle.file_table.specs.Analyses.{Analyses, AgreeOn}
 use Rattle.update_report.specs.Skips.{skip_at, skip_by}
+use Rattle.lib_types.proofs.SameTexts.{itself}
 
 -- analyses that agree on the paths give the same skipped files
 pub skips_agree : (what new : Analyses) (paths : List (List ℕ)) → AgreeOn paths what new → filter_map (skip_at new) paths ≡ filter_map (skip_at what) paths

@@ -1,8 +1,9 @@
 use Rattle.atomic_replace.specs.Replace.{WritesSlot}
 use Rattle.atomic_replace.specs.Step.{Replacement}
 use Rattle.std.proofs.Common.{OnOk, subst}
-use Rattle.atomic_replace.proofs.CallsOneByOne.{on_ok_by, one_write}
+use Rattle.atomic_replace.proofs.CallsOneByOne.{one_write}
 use Rattle.atomic_replace.proofs.slots.replace.Goals as goal
+use Rattle.lib_types.proofs.Results.{on_ok_by}
 
 pub returns-clause-done : goal.returns-clause-done
 returns-clause-done g c =

@@ -7,7 +7,7 @@ use Rattle.soname_links.specs.Settled.{IsSettled}
 use Rattle.tree_face.specs.Known.{IfKnown}
 use Rattle.library_search.proofs.Endings.{found_reads, search_failed}
 use Rattle.library_search.proofs.KnownParts.{is_found, none_lacks, planned_are, planned_only, same_files, settled, too_large}
-use Rattle.library_search.proofs.Results.{ok_both, ok_then}
+use Rattle.library_search.proofs.Results.{ok_both}
 use Rattle.library_search.specs.Faults.{find_ending}
 use Rattle.library_search.specs.Found.{IsFound}
 use Rattle.library_search.specs.Judged.{judged}
@@ -16,6 +16,7 @@ use Rattle.library_search.specs.Stages.{HasFollowed, IsPlannedFor, IsSearchOf, o
 use Rattle.library_search.specs.declared.finding.Found.{Found}
 use Rattle.library_search.specs.declared.search.Search.{Search}
 use Rattle.library_search.proofs.finding.find.Goals as goal
+use Rattle.lib_types.proofs.Results.{ok_then}
 
 pub returns-in_err-search-clause-reads : goal.returns-in_err-search-clause-reads
 returns-in_err-search-clause-reads g c =

@@ -11,13 +11,13 @@ use Rattle.string_pool.proofs.Members.{is_in}
 use Rattle.library_search.proofs.Endings.{conf_failed}
 use Rattle.library_search.proofs.FilesAgree.{rows_only}
 use Rattle.library_search.proofs.KeysBegun.{search_all}
-use Rattle.library_search.proofs.Results.{ok_then}
 use Rattle.library_search.proofs.SearchParts.{all_conf, image_searched, wanted_keys_are}
 use Rattle.library_search.specs.Faults.{find_ending, of_conf}
 use Rattle.library_search.specs.Judged.{AreJudged}
 use Rattle.library_search.specs.Stages.{IsSearchOf}
 use Rattle.library_search.specs.declared.search.Search.{Search}
 use Rattle.library_search.proofs.search.search_image.Goals as goal
+use Rattle.lib_types.proofs.Results.{ok_then}
 
 pub returns-in_err-conf-clause-reads : goal.returns-in_err-conf-clause-reads
 returns-in_err-conf-clause-reads g c =

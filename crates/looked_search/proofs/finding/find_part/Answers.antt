@@ -3,7 +3,7 @@ use Rattle.library_search.specs.Faults.{find_ending}
 use Rattle.tree_face.specs.StoreUse.{Complete}
 use Rattle.image_tree.specs.Tree.{Nodes}
 use Rattle.looked_tree.specs.Looked.{Looked}
-use Rattle.looked_search.proofs.Finds.{ok_then, part_finds}
+use Rattle.looked_search.proofs.Finds.{part_finds}
 use Rattle.library_search.specs.declared.fault.FindFault.TheVariants as finding
 use Rattle.looked_search.proofs.Opened.{conf_failed, last_opens, none_fits, part_failed, seeing_fits, targets_opened}
 use Rattle.looked_search.specs.Opened.{HasNoRoom, OpensConf, OpensTargets, OpensWanted, ending_by}
@@ -13,6 +13,7 @@ use Rattle.looked_search.specs.Tree.{SeesTree}
 use Rattle.seen_update.specs.Found.{FindsOf}
 use Rattle.tree_face.specs.Known.{IfKnown}
 use Rattle.looked_search.proofs.finding.find_part.Goals as goal
+use Rattle.lib_types.proofs.Results.{ok_then}
 
 pub returns-clause-finds : goal.returns-clause-finds
 returns-clause-finds g c =

@@ -2,11 +2,11 @@ use Rattle.std.proofs.Common.{rules, ◌≡◌, inl, inr, Err, sym, subst}
 use Rattle.std.specs.Bool.{IsTrue}
 use Rattle.hwcap_dirs.specs.Places.{are_dirs, are_spelled}
 use Rattle.hwcap_dirs.specs.declared.kinds.Dirs.{Dirs}
-use Rattle.looked_search.proofs.Opened.{one_ending}
 use Rattle.looked_search.specs.Opened.{OpensPart}
 use Rattle.library_search.specs.declared.finding.Found.{Found}
 use Rattle.library_search.specs.declared.search.Search.{Search}
 use Rattle.looked_search.proofs.planning.search_part.Goals as goal
+use Rattle.library_search.proofs.Opened.{same_ending}
 
 pub returns-clause-searches : goal.returns-clause-searches
 returns-clause-searches g c =
@@ -39,7 +39,7 @@ returns-in_err-search-clause-opens g c =
     (inl (record {
       tree = c.know.ensures;
       others = c.in_err-search.ensures.others;
-      reads = rw (one_ending (Unit {0}) Search c.in_err-search.field-0.0) (rw c.in_err-search.was at c.search_places.ensures.reads);
+      reads = rw (same_ending (Unit {0}) Search c.in_err-search.field-0.0) (rw c.in_err-search.was at c.search_places.ensures.reads);
     }))
 
 pub returns-in_err-found-clause-opens : goal.returns-in_err-found-clause-opens
@@ -60,7 +60,7 @@ returns-in_err-found-clause-opens g c =
       };
       middle = g.S.Store.state c.search_places.new.store;
       first = searched.reads;
-      next = rw (one_ending (Unit {0}) Found c.in_err-found.field-0.0) (rw c.in_err-found.was at c.plan_found.ensures.reads);
+      next = rw (same_ending (Unit {0}) Found c.in_err-found.field-0.0) (rw c.in_err-found.was at c.plan_found.ensures.reads);
     }))
 
 pub returns-in_err-found-clause-too_large : goal.returns-in_err-found-clause-too_large

@@ -1,9 +1,10 @@
 use Rattle.std.proofs.Common.{rules, ◌≡◌, Err, length, sym}
 use Rattle.std.proofs.lemmas.List.{length-map}
 use Rattle.root_links.proofs.Made.{all_made, links_fail, some_made}
-use Rattle.root_links.proofs.Results.{if_err_by, on_ok_by}
+use Rattle.root_links.proofs.Results.{if_err_by}
 use Rattle.root_links.specs.Links.{links_in}
 use Rattle.root_links.proofs.making.make_links.Goals as goal
+use Rattle.lib_types.proofs.Results.{on_ok_by}
 
 pub returns-in_err-link_all-clause-failed : goal.returns-in_err-link_all-clause-failed
 returns-in_err-link_all-clause-failed g c =
