@@ -1,4 +1,6 @@
 mod Adopted
+mod Completed
 mod Images
+mod OneImage
 mod Repaired
 mod Statuses

@@ -12,7 +12,7 @@ use Rattle.tree_face.specs.Stream.{SinkState}
 use Rattle.update_runs.specs.Update.{States}
 use Rattle.layer_runs.specs.Crash.{LeavesWholeImage, RepairsAdopted}
 use Rattle.layer_runs.specs.Image.{IsBadLayer}
-use Rattle.layer_runs.specs.Left.{CompletesAdopted, RebuildsAdopted, WritesAsUpdate}
+use Rattle.layer_runs.specs.Left.{CompletesAdopted, CompletesLayers, RebuildsAdopted, RefusesLayer, WritesAsUpdate}
 use Rattle.layer_runs.specs.Run.{RunsLayers}
 
 -- everything that is known of the update of an adopted image
@@ -32,4 +32,6 @@ pub record LayersRun (keys : List (List ℕ)) (old new : DeviceStates) (status :
   pub facts : IfOk runs.image (λ tree. AdoptedFacts tree status (record (states_of old old.sink) { store = runs.read }) (states_of new before))
   -- the status of a layer comes only if the layer is the first one that can't be part of an image
   pub bad_layer : (number : ℕ) (kind : LayerKind) → status ≡ BadLayer number kind → IfKnown old.store.held (λ held. IsBadLayer held keys number kind)
+  pub refuses : RefusesLayer keys status (states_of old old.sink) (states_of new before)
+  pub completes : CompletesLayers keys status (states_of old old.sink) (states_of new before)
   pub source : new.source ≡ old.source
