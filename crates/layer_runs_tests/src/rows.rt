@@ -1,8 +1,6 @@
-// Layers, and what the command makes of them.
-use command_runs_fixture::{Held, OLD, Setting, all, make_devices};
+//! Layers, and what the command makes of them.
+use crate::stack::{Layer, SURE, devices_of, run, text};
 use command_status::{LayerKind, Status};
-use layer_runs::run_layers;
-use lib_types::{Text, Texts};
 use mtree_manifest::{LineKind, ManifestFault};
 use std::alloc::Global;
 use std::process::Abort;
@@ -12,13 +10,13 @@ use tree_face::{Disk, Slot};
 // Layers, the lowest first: their keys with their manifests, without the first line. The status, the output, and the manifest without its
 // first line, if one is written.
 struct Row {
-    layers: &'static [(&'static str, &'static str)],
+    layers: &'static [Layer],
     status: Status,
     out: &'static str,
     manifest: Option<&'static str>,
 }
 
-const BASE: (&str, &str) = (
+const BASE: Layer = (
     "base",
     "./usr/lib/liba.so.1 type=file contents=a\n./usr/lib/libz.so.1 type=file contents=z\n",
 );
@@ -98,51 +96,9 @@ const ROWS: &[Row] = &[
     },
 ];
 
-fn text(alloc: Global, lines: &str) -> Result<Vec<u8>, Fail> {
-    let mut text = Vec::from_slice(alloc, b"#mtree\n")?;
-    text.extend_from_slice(lines.as_bytes())?;
-    Ok(text)
-}
-
-fn keys_of(alloc: Global, layers: &[(&str, &str)]) -> Result<Texts, Fail> {
-    let mut keys = Texts::new(alloc);
-    for (key, _) in layers {
-        keys.push(Text::copy_of(alloc, key.as_bytes())?)?;
-    }
-    Ok(keys)
-}
-
-const LIBRARIES: &[Held<'static>] = &[
-    Held::Library("a", "liba.so.1"),
-    Held::Library("b", "libb.so.1"),
-    Held::Library("z", "libz.so.1"),
-];
-
 fn assert_row(rt: &impl Abort, alloc: Global, row: &Row) -> Result<(), Fail> {
-    let mut held = all(alloc, LIBRARIES)?;
-    for (key, lines) in row.layers {
-        held.push((
-            Text::copy_of(alloc, key.as_bytes())?,
-            Text::from_vec(text(alloc, lines)?),
-        ))?;
-    }
-    let setting = Setting {
-        manifest: None,
-        cache: Some(OLD),
-        aux: None,
-        store_fails: None,
-        disk_fails: None,
-        out_fails: None,
-    };
-    let mut devices = make_devices(alloc, setting, held)?;
-    let keys = keys_of(alloc, row.layers)?;
-    let status = run_layers(
-        alloc,
-        &keys,
-        &mut devices.store,
-        &mut devices.disk,
-        &mut devices.out,
-    );
+    let mut devices = devices_of(alloc, row.layers, SURE)?;
+    let status = run(alloc, row.layers, &mut devices)?;
     assert!(rt; status == row.status, "{}", row.out);
     assert!(rt; devices.out.written() == row.out.as_bytes(), "{}", row.out);
     let manifest = devices.disk.read(alloc, Slot::Manifest).ok().flatten();

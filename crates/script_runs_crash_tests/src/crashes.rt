@@ -1,8 +1,11 @@
-//! A machine that stops at each writing call of an update, and the next update of each image that may be left.
+//! A machine that stops at each writing call of an update, and the next update of each image that may be left. An update is one of a
+//! manifest, or of the image that layers make.
 use command_runs::Status;
 use command_runs_fixture::{
     Devices, Held, NO_STAMPS, OLD, Setting, all, has, image, make_devices, run_update,
 };
+use layer_runs::run_layers;
+use lib_types::{Text, Texts};
 use std::alloc::Global;
 use std::process::Abort;
 use std::test::Fail;
@@ -26,11 +29,14 @@ const HELD: &[Held<'_>] = &[
 /// The manifest file and the auxiliary cache file before an update that plans a link, and after it.
 #[derive(Clone, Copy)]
 struct Update<'a> {
+    /// The keys of the layers, with their manifests. Without layers the image is that of the manifest file.
+    layers: &'a [(&'a str, &'a str)],
     manifests: (&'a [u8], &'a [u8]),
     auxes: (Option<&'a [u8]>, &'a [u8]),
 }
 
 const WITHOUT_IDENTITIES: Update<'_> = Update {
+    layers: &[],
     manifests: (
         b"#mtree\n./usr/lib/libfoo.so.1 type=link link=libfoo.so.1.1\n./usr/lib/libfoo.so.1.1 type=file\n./usr/lib/libfoo.so.1.2 type=file\n",
         b"#mtree\n./usr/lib/libfoo.so.1 type=link link=libfoo.so.1.2\n./usr/lib/libfoo.so.1.1 type=file\n./usr/lib/libfoo.so.1.2 type=file\n",
@@ -40,6 +46,7 @@ const WITHOUT_IDENTITIES: Update<'_> = Update {
 
 // Before the update there are stamps of the only library, and of a file that is gone, in a file of version 1.0.
 const WITH_IDENTITIES: Update<'_> = Update {
+    layers: &[],
     manifests: (
         b"#mtree\n./usr/lib/libfoo.so.1 type=link link=libfoo.so.1.1\n./usr/lib/libfoo.so.1.1 type=file dev=0 inode=1 ctime=3 size=253\n./usr/lib/libfoo.so.1.2 type=file dev=0 inode=2 ctime=4 size=253\n",
         b"#mtree\n./usr/lib/libfoo.so.1 type=link link=libfoo.so.1.2\n./usr/lib/libfoo.so.1.1 type=file dev=0 inode=1 ctime=3 size=253\n./usr/lib/libfoo.so.1.2 type=file dev=0 inode=2 ctime=4 size=253\n",
@@ -60,6 +67,21 @@ const WITH_IDENTITIES: Update<'_> = Update {
         \x03\x03\x00\x00\x01\x00\x00\x00\x00\x00\x00\x00\x00\x00\x00\x00\
         \0libfoo.so.1\0",
     ),
+};
+
+// The upper layer has another version of the library, and removes a file. The image is that of the manifests above.
+const OF_LAYERS: Update<'_> = Update {
+    layers: &[
+        (
+            "base",
+            "#mtree\n./etc/old type=file\n./usr/lib/libfoo.so.1 type=link link=libfoo.so.1.1\n./usr/lib/libfoo.so.1.1 type=file inode=1 ctime=3 size=253\n",
+        ),
+        (
+            "top",
+            "#mtree\n./etc/.wh.old type=file\n./usr/lib/libfoo.so.1.2 type=file inode=2 ctime=4 size=253\n",
+        ),
+    ],
+    ..WITH_IDENTITIES
 };
 
 // The content that a crash may leave in a slot's file.
@@ -108,7 +130,31 @@ fn devices_of(alloc: Global, update: &Update<'_>) -> Result<Devices, Fail> {
         aux: update.auxes.0,
         ..image(update.manifests.0)
     };
-    Ok(make_devices(alloc, setting, all(alloc, HELD)?)?)
+    let mut held = all(alloc, HELD)?;
+    for (key, manifest) in update.layers {
+        held.push((
+            Text::copy_of(alloc, key.as_bytes())?,
+            Text::copy_of(alloc, manifest.as_bytes())?,
+        ))?;
+    }
+    Ok(make_devices(alloc, setting, held)?)
+}
+
+fn run(alloc: Global, update: &Update<'_>, devices: &mut Devices) -> Result<Status, Fail> {
+    if update.layers.is_empty() {
+        return Ok(run_update(alloc, devices));
+    }
+    let mut keys = Texts::new(alloc);
+    for (key, _) in update.layers {
+        keys.push(Text::copy_of(alloc, key.as_bytes())?)?;
+    }
+    Ok(run_layers(
+        alloc,
+        &keys,
+        &mut devices.store,
+        &mut devices.disk,
+        &mut devices.out,
+    ))
 }
 
 // The next update of an image leaves what an undisturbed update leaves.
@@ -122,7 +168,7 @@ fn assert_repaired(
 ) -> Result<(), Fail> {
     let mut devices = devices_of(alloc, update)?;
     devices.disk = image;
-    let status = run_update(alloc, &mut devices);
+    let status = run(alloc, update, &mut devices)?;
     assert!(rt; status == Status::Done, "after {calls}, {choice}");
     let disk = &mut devices.disk;
     let is_whole = has(alloc, disk, Slot::Manifest, Some(update.manifests.1))
@@ -155,7 +201,7 @@ fn assert_stopped(
     let calls = row.0;
     let mut devices = devices_of(alloc, update)?;
     devices.disk.stop_after(calls);
-    let status = run_update(alloc, &mut devices);
+    let status = run(alloc, update, &mut devices)?;
     let want = if calls < 15 {
         Status::DiskFault
     } else {
@@ -186,6 +232,14 @@ fn each_slot_is_old_or_new_in_order(rt: HostRuntime) -> Result<(), Fail> {
 fn each_slot_is_old_or_new_with_identities(rt: HostRuntime) -> Result<(), Fail> {
     for row in TABLE {
         assert_stopped(&rt, rt.alloc(), &WITH_IDENTITIES, *row)?;
+    }
+    Ok(())
+}
+
+#[test]
+fn each_slot_is_old_or_new_over_layers(rt: HostRuntime) -> Result<(), Fail> {
+    for row in TABLE {
+        assert_stopped(&rt, rt.alloc(), &OF_LAYERS, *row)?;
     }
     Ok(())
 }

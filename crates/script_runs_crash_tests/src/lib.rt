@@ -1,4 +1,4 @@
-//! Tests of the command `update` over a machine that stops at each writing call.
+//! Tests of the commands `update` and `layers` over a machine that stops at each writing call.
 #![tactic(auto)]
 
 #[cfg(test)]
