@@ -19,6 +19,7 @@ PLAIN = f"#mtree\n./usr/lib/libz.so.1 {IDENTITY}\n"
 PLANNED = f"#mtree\n./usr/lib/libz.so.1.2 {IDENTITY}\n"
 WITH_LINK = f"#mtree\n./usr/lib/libz.so.1 type=link link=libz.so.1.2\n./usr/lib/libz.so.1.2 {IDENTITY}\n"
 KINDS = ("cache", "bare", "left", "planned")
+LAYERS_KIND = "layers"
 # With -r: the link, a library that the old link leads to, the library that it is for, and the images.
 SONAME, OLDER, NEWER = "usr/lib/libz.so.1", "usr/lib/libz.so.1.1", "usr/lib/libz.so.1.2"
 ROOT_KINDS = ("root", "replaced")
@@ -127,6 +128,23 @@ class Wanted:
     def report_after(self, slots):
         """The report of the next update: links that are still planned are reported again, and a library without a cached record is opened again."""
         return (LINKED if slots[0] == "old" else REPORT) % (slots[2] != "new")
+
+
+class LayersWanted(Wanted):
+    """What the files of an image may contain before and after an update over two layers, of which the upper one removes a file."""
+
+    words = ("layers", "base", "top")
+
+    def __init__(self, old, new):
+        super().__init__("planned", old, new)
+        self.kind = LAYERS_KIND
+        layers = {"base": (PLANNED + "./old type=file\n").encode(), "top": b"#mtree\n./.wh.old type=file\n"}
+        self.files |= layers
+        self.after |= layers
+
+    def report_after(self, slots):
+        """No layer has the link, so it is planned and reported each time."""
+        return LINKED % (slots[2] != "new")
 
 
 class RootWanted(Wanted):
