@@ -26,7 +26,7 @@ _ldconfig_image() {
                 print) words='--json -r' ;;
                 -p) words='-r -C' ;;
                 lookup) words='--abi --caps --json -r' ;;
-                resolve) words='--caps --library-path --platform --secure --list -0 --json -r' ;;
+                resolve) words='--all --caps --library-path --platform --secure --list -0 --json --tree -r' ;;
                 esac
             fi
             ;;

@@ -1,13 +1,14 @@
 -- A command that finds what it asks for ends with its answer.
 use Rattle.std.proofs.Common.{◌≡◌, ◌⊎◌, ◌≤◌, ℕ, List, Bool, true, false, Option, Some, None, Result, Ok, Err, inl, inr, ap, arith, refl, subst, sym, ◌∙◌}
 use Rattle.std.proofs.lemmas.Bool.{true≢false}
+use Rattle.std.specs.List.{AllByRecursion}
 use Rattle.std.specs.Prelude.{IfOk, if◌then◌else◌}
 use Rattle.std.specs.Result.{result_map_both}
 use Rattle.tree_face.specs.Devices.{DeviceStates, IfBothKnown}
 use Rattle.cache_reader.specs.Cache.{CachedEntry}
 use Rattle.cache_reader.specs.declared.defect.CacheDefect.{CacheDefect}
 use Rattle.command_words.specs.declared.kinds.Form.{Form}
-use Rattle.command_words.specs.declared.kinds.Form.TheVariants.{Files, Json, Listing}
+use Rattle.command_words.specs.declared.kinds.Form.TheVariants.{Files, Json, Listing, Tree}
 use Rattle.command_words.specs.declared.kinds.Resolve.{Resolve}
 use Rattle.elf_interpreter.specs.Faults.{interpreter_ending}
 use Rattle.elf_interpreter.specs.declared.fault.InterpreterFault.{InterpreterFault}
@@ -41,9 +42,10 @@ use Rattle.command_status.specs.declared.status.Status.TheVariants.{Done, Missin
 use Rattle.asking_runs.specs.AskCache.{CacheAnswer, IsMade, answer_of}
 use Rattle.asking_runs.specs.Complete.{Completes, NoFault}
 use Rattle.asking_runs.specs.Faults.{of_cache, of_list}
+use Rattle.asking_runs.proofs.Choosing.{all_chosen, held_chosen, more_chosen, paths_are}
 use Rattle.asking_runs.proofs.Listing.{all_held, all_more, inside, keys_held, lacking, none_faulty, stopped_by_memory}
-use Rattle.asking_runs.specs.Listings.{files_answer, first_fault, json_answer, listings_answer}
-use Rattle.asking_runs.specs.Resolve.{AnswersAs, AnswersImage, AnswersScopes, CompletesListing, HaveListings, IsAnswer, IsAnswerable, IsFilesAnswer, ListsImage, ListsPrograms, ListsWith, cache_of, env_of}
+use Rattle.asking_runs.specs.Listings.{files_answer, first_fault, json_answer, listings_answer, trees_answer}
+use Rattle.asking_runs.specs.Resolve.{AnswersAs, AnswersImage, AnswersScopes, Chooses, CompletesListing, HasListing, HaveListings, IsAnswer, IsAnswerable, IsFilesAnswer, ListsAt, ListsChosen, ListsImage, ListsPrograms, ListsWith, cache_of, env_of}
 use Rattle.asking_runs.specs.declared.fault.CacheFault.{CacheFault}
 use Rattle.asking_runs.specs.declared.fault.ListFault.{ListFault}
 use Rattle.asking_runs.specs.declared.fault.ListFault.TheVariants as faults
@@ -105,54 +107,73 @@ module _ (old new : DeviceStates) (status : Status) where
     abbrev EndsBy : Result AnswerText ListFault → Type 0
     EndsBy answer = EndsAs (result_map_both (λ answer. answer) of_list answer) status old.sink new.sink
 
-    module _ (system : SystemDirs) (tree : Nodes) (cache : Option (List CachedEntry)) (all : HaveListings system asked tree cache held) (none : NoFault old new) where
+    module _ (system : SystemDirs) (tree : Nodes) (cache : Option (List CachedEntry)) (paths : List (List ℕ)) (all : AllByRecursion (HasListing (env_of system asked) tree cache held) paths)
+        (start : StoreState) (quiet : HasRisen start.faults new.store.faults → ⊥) (none : NoFault old new) where
       -- an answer without a fault
       by_text : (text : AnswerText) (answer : Result AnswerText ListFault) → text.fault ≡ None → IsAnswer text answer → EndsBy answer → Ends
       by_text text answer whole (inl is) ends =
           by_missing text.missing (subst (λ (fault : Option ProgramFault). status ≡ first_status fault (if text.missing then Missing else Done)) whole (ended text (subst EndsBy is ends) none))
       by_text text answer whole (inr is) ends = inr (subst EndsBy is ends).0
 
-      module _ (ps : List ProgramScope) (between : StoreState) (resolves : ResolvesEach (Some held) tree cache (env_of system asked) asked.paths (Ok ps) old.store between) where
+      module _ (ps : List ProgramScope) (between : StoreState) (resolves : ResolvesEach (Some held) tree cache (env_of system asked) paths (Ok ps) start between) where
         whole : between.faults ≤ new.store.faults → first_fault ps ≡ None
-        whole more = none_faulty held (env_of system asked) tree cache asked.paths ps old.store between all resolves (λ risen. none.store (inside _ _ _ _ (omega arith) more risen))
+        whole more = none_faulty held (env_of system asked) tree cache paths ps start between all resolves (λ risen. quiet (inside _ _ _ _ (omega arith) more risen))
 
         by_files : (end : ℕ) (needed : Result NeededFiles InterpreterFault) (answer : Result AnswerText ListFault)
             → ReadsPrograms (Some held) (program_keys tree ps) (interpreter_ending needed) between new.store → IsFilesAnswer end ps needed answer → EndsBy answer → Ends
         by_files end (Ok needed) answer reads is ends = by_text (files_answer end needed ps) answer (whole reads.faults) is ends
         by_files end (Err interpreters.StoreFault) answer reads is ends =
-            let before = all_more held (env_of system asked) tree cache asked.paths ps old.store between resolves in
-            absurd (lacking held (env_of system asked) tree cache _ _ (program_keys tree ps) (keys_held held (env_of system asked) tree cache asked.paths ps old.store between all resolves)
-            (λ risen. none.store (inside _ _ _ _ before (omega arith) risen)) reads.cause)
+            let before = all_more held (env_of system asked) tree cache paths ps start between resolves in
+            absurd (lacking held _ _ (program_keys tree ps) (keys_held held (env_of system asked) tree cache paths ps start between all resolves)
+            (λ risen. quiet (inside _ _ _ _ before (omega arith) risen)) reads.cause)
         by_files end (Err interpreters.NoMemory) answer reads is ends = inr (subst EndsBy is ends).0
 
         by_form : (form : Form) (answer : Result AnswerText ListFault) → between.held ≡ Some held → AnswersAs form tree ps answer between new.store → EndsBy answer → Ends
         by_form Listing answer known answers ends = by_text (listings_answer ps) answer (whole (rw answers.1 (omega arith))) answers.0 ends
         by_form Json answer known answers ends = by_text (json_answer ps) answer (whole (rw answers.1 (omega arith))) answers.0 ends
+        by_form Tree answer known answers ends = by_text (trees_answer ps) answer (whole (rw answers.1 (omega arith))) answers.0 ends
         by_form (Files end) answer known answers ends =
             by_files end answers.needed answer (subst (λ (h : Option Contents). ReadsPrograms h (program_keys tree ps) (interpreter_ending answers.needed) between new.store) known answers.reads)
             answers.answer_is ends
 
-      by_scopes : (form : Form) (scopes : Result (List ProgramScope) SearchFault) (between : StoreState) (answer : Result AnswerText ListFault) → old.store.held ≡ Some held
-          → ResolvesEach (Some held) tree cache (env_of system asked) asked.paths scopes old.store between → AnswersScopes form tree scopes answer between new.store → EndsBy answer → Ends
+      by_scopes : (form : Form) (scopes : Result (List ProgramScope) SearchFault) (between : StoreState) (answer : Result AnswerText ListFault) → start.held ≡ Some held
+          → ResolvesEach (Some held) tree cache (env_of system asked) paths scopes start between → AnswersScopes form tree scopes answer between new.store → EndsBy answer → Ends
       by_scopes form (Ok ps) between answer known resolves answers ends =
-          by_form ps between resolves form answer (all_held held (env_of system asked) tree cache asked.paths ps old.store between resolves ∙ known) answers ends
+          by_form ps between resolves form answer (all_held held (env_of system asked) tree cache paths ps start between resolves ∙ known) answers ends
       by_scopes form (Err fault) between answer known resolves answers ends =
-          let stopped = subst (λ (s : StoreState). IsStopped (ResolvesOne (Some held) tree cache (env_of system asked)) fault asked.paths old.store s) (sym answers.1) resolves in
-          inr (subst (λ (f : SearchFault). status ≡ of_list (faults.Search f)) (stopped_by_memory held (env_of system asked) tree cache fault asked.paths old.store new.store all stopped none.store)
+          let stopped = subst (λ (s : StoreState). IsStopped (ResolvesOne (Some held) tree cache (env_of system asked)) fault paths start s) (sym answers.1) resolves in
+          inr (subst (λ (f : SearchFault). status ≡ of_list (faults.Search f)) (stopped_by_memory held (env_of system asked) tree cache fault paths start new.store all stopped quiet)
           (subst EndsBy answers.0 ends).0)
 
-      by_lists : (answer : Result AnswerText ListFault) → old.store.held ≡ Some held → ListsPrograms asked.form asked.paths (env_of system asked) tree cache answer old.store new.store → EndsBy answer → Ends
-      by_lists answer known lists ends =
+      by_paths : (answer : Result AnswerText ListFault) → start.held ≡ Some held → ListsAt asked.form paths (env_of system asked) tree cache answer start new.store → EndsBy answer → Ends
+      by_paths answer known lists ends =
           by_scopes asked.form lists.scopes lists.between answer known
-          (subst (λ (h : Option Contents). ResolvesEach h tree cache (env_of system asked) asked.paths lists.scopes old.store lists.between) known lists.resolves) lists.answers ends
+          (subst (λ (h : Option Contents). ResolvesEach h tree cache (env_of system asked) paths lists.scopes start lists.between) known lists.resolves) lists.answers ends
+
+    module _ (system : SystemDirs) (tree : Nodes) (cache : Option (List CachedEntry)) (all : HaveListings system asked tree cache held) (none : NoFault old new) (known : old.store.held ≡ Some held) where
+      abbrev ListsAll : List (List ℕ) → Type 0
+      ListsAll paths = AllByRecursion (HasListing (env_of system asked) tree cache held) paths
+
+      by_chosen : (paths : Result (List (List ℕ)) SearchFault) (middle : StoreState) (answer : Result AnswerText ListFault) → Chooses asked.paths tree paths old.store middle
+          → ListsChosen asked.form paths (env_of system asked) tree cache answer middle new.store → EndsBy answer → Ends
+      by_chosen (Ok paths) middle answer chooses lists ends =
+          let before = more_chosen tree asked.paths (Ok paths) old.store middle chooses in
+          by_paths system tree cache paths (subst ListsAll (sym (paths_are held tree asked.paths paths old.store middle known chooses)) all.listed)
+          middle (λ risen. none.store (inside _ _ _ _ before (omega arith) risen)) none answer (held_chosen tree asked.paths (Ok paths) old.store middle chooses ∙ known) lists ends
+      by_chosen (Err searches.StoreFault) middle answer chooses lists ends =
+          absurd (all_chosen held tree asked.paths all.found old.store middle known (λ risen. none.store (rw lists.1 risen)) chooses)
+      by_chosen (Err searches.NoMemory) middle answer chooses lists ends = inr (subst EndsBy lists.0 ends).0
+
+      by_lists : (answer : Result AnswerText ListFault) → ListsPrograms asked.form asked.paths (env_of system asked) tree cache answer old.store new.store → EndsBy answer → Ends
+      by_lists answer lists ends = by_chosen lists.paths lists.middle answer lists.chooses lists.lists ends
 
       -- an image of this tree and cache was read
-      pub by_image : (image : ReadImage) (answer : Result AnswerText ListFault) → old.store.held ≡ Some held → image.tree ≡ tree → cache_of image.cache ≡ Ok cache
+      pub by_image : (image : ReadImage) (answer : Result AnswerText ListFault) → image.tree ≡ tree → cache_of image.cache ≡ Ok cache
           → ListsImage system asked image answer old.store new.store → EndsBy answer → Ends
-      by_image image answer known same entries lists ends =
+      by_image image answer same entries lists ends =
           let by_tree = subst (λ (t : Nodes). ListsWith asked.form asked.paths (env_of system asked) t (cache_of image.cache) answer old.store new.store) same lists in
           let by_cache = subst (λ (c : Result (Option (List CachedEntry)) CacheDefect). ListsWith asked.form asked.paths (env_of system asked) tree c answer old.store new.store) entries by_tree in
-          by_lists answer known by_cache ends
+          by_lists answer by_cache ends
 
     abbrev tree_or : Nodes → Manifest → Nodes
     tree_or other (HasTree tree) = tree
@@ -170,7 +191,7 @@ module _ (old new : DeviceStates) (status : Status) where
       of_manifest image answer tree cache lists ends =
           let same : image.tree ≡ right.tree = ap (tree_or image.tree) (sym tree ∙ right.manifest) in
           let entries : cache_of image.cache ≡ Ok right.entries = sym (ap cache_of cache) ∙ right.cache in
-          by_image systems.Loader right.tree right.entries right.listings none image answer known same entries lists ends
+          by_image systems.Loader right.tree right.entries right.listings none known image answer same entries lists ends
 
       by_read : (read : Result ReadImage LoadFault) (answer : Result AnswerText ListFault) → old.disk.contents ≡ Some content → ReadsImage sources.Manifest read old.disk new.disk
           → AnswersImage asked read answer old.store new.store → EndsBy answer → Ends

@@ -1,3 +1,4 @@
 mod Asking
+mod Choosing
 pub mod Completing
 mod Listing

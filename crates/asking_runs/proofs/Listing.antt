@@ -52,6 +52,11 @@ memory_alone searches.NoMemory good = refl
 pub inside : (a b c d : ℕ) → a ≤ b → c ≤ d → HasRisen b c → HasRisen a d
 inside a b c d first last risen = omega (arith, first, last, risen)
 
+-- the store holds these files and doesn't fail
+pub lacking : (held : Contents) (before after : ℕ) (keys : List (List ℕ)) → lacks_one held keys ≡ false → (HasRisen before after → ⊥) → HasRisen before after ⊎ (lacks_one held keys ≡ true) → ⊥
+lacking held before after keys holds none (inl risen) = none risen
+lacking held before after keys holds none (inr lacks) = true≢false (sym lacks ∙ holds)
+
 module _ (held : Contents) (env : Env) (tree : Nodes) (cache : Option (List CachedEntry)) where
   other_file : (path real other : List ℕ) (o : Object) (d : Defect) → program_at tree path ≡ Some real → program_at tree path ≡ Some other → object_at held tree real ≡ Some (Ok o)
       → object_at held tree other ≡ Some (Err d) → ⊥
@@ -62,16 +67,12 @@ module _ (held : Contents) (env : Env) (tree : Nodes) (cache : Option (List Cach
   nothing : {file : Option (List ℕ)} {real : List ℕ} → file ≡ None → file ≡ Some real → ⊥
   nothing e f = absurd (cc (e, f))
 
-  pub lacking : (before after : ℕ) (keys : List (List ℕ)) → lacks_one held keys ≡ false → (HasRisen before after → ⊥) → HasRisen before after ⊎ (lacks_one held keys ≡ true) → ⊥
-  lacking before after keys holds none (inl risen) = none risen
-  lacking before after keys holds none (inr lacks) = true≢false (sym lacks ∙ holds)
-
   module _ (path : List ℕ) (is : HasListing env tree cache held path) (a b : StoreState) (none : HasRisen a.faults b.faults → ⊥) where
     fails : ReadsListing (Some held) tree cache path env DeviceFailed a b → ⊥
     fails reads =
         let of_file = subst (λ (file : Option (List ℕ)). BeginsFor tree cache path env held file DeviceFailed a b) is.file reads in
         let of_object = subst (λ (o : Option (Result Object Defect)). BeginsBy o (record_of tree cache path env held is.real) (file_keys tree (is.real ∷ [])) held DeviceFailed a b) is.says of_file in
-        lacking _ _ _ (is.holds of_object.requests) none of_object.reads.cause
+        lacking held _ _ _ (is.holds of_object.requests) none of_object.reads.cause
 
     good : (outcome : Outcome) → ResolvesOne (Some held) tree cache env path outcome a b → IsGood outcome
     good (Ok scope) lists = tt

@@ -11,6 +11,7 @@ use Rattle.ldd_resolve.specs.declared.kinds.ProgramFault.{ProgramFault}
 use Rattle.ldd_resolve.specs.declared.kinds.ProgramScope.{ProgramScope}
 use Rattle.ldd_resolve.specs.declared.kinds.Scope.{Scope}
 use Rattle.needed_files.specs.Printed.{list_text}
+use Rattle.scope_tree.specs.Printed.{tree_text}
 use Rattle.needed_files.specs.declared.files.NeededFiles.{NeededFiles}
 use Rattle.update_report.specs.Lines.{line}
 use Rattle.json_answers.specs.Programs.{programs_data}
@@ -34,6 +35,17 @@ part several p = head several p.path ++ body p.scope
 
 abbrev pub listings_text : List ProgramScope → List ℕ
 listings_text ps = flat_map (part (nat_lt 1 (length ps))) ps
+
+-- the tree, or the fault line in its place
+abbrev pub tree_body : Result Scope ProgramFault → List ℕ
+tree_body (Ok scope) = tree_text scope
+tree_body (Err fault) = said (of_program fault)
+
+abbrev pub tree_part : Bool → ProgramScope → List ℕ
+tree_part several p = head several p.path ++ tree_body p.scope
+
+abbrev pub trees_text : List ProgramScope → List ℕ
+trees_text ps = flat_map (tree_part (nat_lt 1 (length ps))) ps
 
 -- ---- what is missing
 
@@ -64,6 +76,13 @@ is_missing ps = list_any (λ p. is_missing_one p.scope) ps
 abbrev pub listings_answer : List ProgramScope → AnswerText
 listings_answer ps = record {
   text = listings_text ps;
+  missing = is_missing ps;
+  fault = first_fault ps;
+}
+
+abbrev pub trees_answer : List ProgramScope → AnswerText
+trees_answer ps = record {
+  text = trees_text ps;
   missing = is_missing ps;
   fault = first_fault ps;
 }

@@ -1,18 +1,20 @@
 -- The command `resolve`: what the loader loads for programs (ld.so(8); ldd(1) lists it).
-use Rattle.std.specs.Prelude.{◌≡◌, ◌⊎◌, ℕ, false, List, Option, Some, None, Result, Ok, Err, IfOk}
+use Rattle.std.specs.Prelude.{◌≡◌, ◌⊎◌, ℕ, false, List, [], Option, Some, None, Result, Ok, Err, IfOk}
 use Rattle.std.specs.List.{AllByRecursion}
 use Rattle.std.specs.Result.{result_map_both}
 use Rattle.cache_lookup.specs.Sorted.{sorted_in}
 use Rattle.cache_reader.specs.Cache.{CachedEntry}
 use Rattle.cache_reader.specs.declared.defect.CacheDefect.{CacheDefect}
 use Rattle.command_words.specs.declared.kinds.Form.{Form}
-use Rattle.command_words.specs.declared.kinds.Form.TheVariants.{Files, Json, Listing}
+use Rattle.command_words.specs.declared.kinds.Form.TheVariants.{Files, Json, Listing, Tree}
 use Rattle.command_words.specs.declared.kinds.Resolve.{Resolve}
 use Rattle.tree_face.specs.Devices.{DeviceStates, IfBothKnown}
-use Rattle.elf_dynamic.specs.Begun.{lacks_one}
+use Rattle.elf_dynamic.specs.Begun.{ReadsBy, lacks_one}
 use Rattle.elf_dynamic.specs.declared.kinds.Object.{Object}
 use Rattle.elf_interpreter.specs.Faults.{interpreter_ending}
 use Rattle.elf_interpreter.specs.declared.fault.InterpreterFault.{InterpreterFault}
+use Rattle.image_programs.specs.Programs.{image_programs, node_keys}
+use Rattle.rpath_search.specs.Faults.{search_ending}
 use Rattle.rpath_search.specs.declared.kinds.SystemDirs.{SystemDirs}
 use Rattle.rpath_search.specs.declared.kinds.SystemDirs.TheVariants as systems
 use Rattle.rpath_search.specs.declared.fault.SearchFault.{SearchFault}
@@ -39,7 +41,7 @@ use Rattle.command_status.specs.declared.status.Status.{Status}
 use Rattle.command_status.specs.declared.status.Status.TheVariants.{Done, Missing, NoMemory}
 use Rattle.asking_runs.specs.Complete.{NoFault}
 use Rattle.asking_runs.specs.Faults.{of_interpreter, of_list}
-use Rattle.asking_runs.specs.Listings.{files_answer, json_answer, listed_text, listings_answer}
+use Rattle.asking_runs.specs.Listings.{files_answer, json_answer, listed_text, listings_answer, trees_answer}
 use Rattle.asking_runs.specs.declared.fault.ListFault.{ListFault}
 use Rattle.asking_runs.specs.declared.fault.ListFault.TheVariants as faults
 use Rattle.asking_runs.specs.declared.listings.Listed.{Listed}
@@ -78,6 +80,7 @@ pub record AnswersFiles (end : ℕ) (tree : Nodes) (ps : List ProgramScope) (ans
 abbrev pub AnswersAs : Form → Nodes → List ProgramScope → Result AnswerText ListFault → StoreState → StoreState → Type 0
 AnswersAs Listing tree ps answer old new = IsAnswer (listings_answer ps) answer × (new ≡ old)
 AnswersAs Json tree ps answer old new = IsAnswer (json_answer ps) answer × (new ≡ old)
+AnswersAs Tree tree ps answer old new = IsAnswer (trees_answer ps) answer × (new ≡ old)
 AnswersAs (Files end) tree ps answer old new = AnswersFiles end tree ps answer old new
 
 -- the same, or the fault that ended the search
@@ -86,11 +89,35 @@ AnswersScopes form tree (Ok ps) answer old new = AnswersAs form tree ps answer o
 AnswersScopes form tree (Err fault) answer old new = (answer ≡ Err (faults.Search fault)) × (new ≡ old)
 
 -- The programs at these paths are resolved, and this is the answer for their scopes.
-pub record ListsPrograms (form : Form) (paths : List (List ℕ)) (env : Env) (tree : Nodes) (cache : Option (List CachedEntry)) (answer : Result AnswerText ListFault) (old new : StoreState) : Type 0 where
+pub record ListsAt (form : Form) (paths : List (List ℕ)) (env : Env) (tree : Nodes) (cache : Option (List CachedEntry)) (answer : Result AnswerText ListFault) (old new : StoreState) : Type 0 where
   pub scopes : Result (List ProgramScope) SearchFault
   pub between : StoreState
   pub resolves : ResolvesEach old.held tree cache env paths scopes old between
   pub answers : AnswersScopes form tree scopes answer between new
+
+-- ---- the programs
+
+-- The files of the image are opened to find its programs and libraries, and these are their paths.
+pub record FindsPrograms (tree : Nodes) (paths : Result (List (List ℕ)) SearchFault) (old new : StoreState) : Type 0 where
+  pub found : IfOk paths (λ paths. IfKnown old.held (λ held. paths ≡ image_programs held tree))
+  pub reads : ReadsBy old.held (node_keys tree) (search_ending paths) old new
+
+-- the paths that are given, or those of all programs and libraries of the image
+abbrev pub Chooses : Option (List (List ℕ)) → Nodes → Result (List (List ℕ)) SearchFault → StoreState → StoreState → Type 0
+Chooses (Some given) tree paths old new = (paths ≡ Ok given) × (new ≡ old)
+Chooses None tree paths old new = FindsPrograms tree paths old new
+
+-- the programs at the chosen paths are listed; a fault ended the choice
+abbrev pub ListsChosen : Form → Result (List (List ℕ)) SearchFault → Env → Nodes → Option (List CachedEntry) → Result AnswerText ListFault → StoreState → StoreState → Type 0
+ListsChosen form (Ok paths) env tree cache answer old new = ListsAt form paths env tree cache answer old new
+ListsChosen form (Err fault) env tree cache answer old new = (answer ≡ Err (faults.Search fault)) × (new ≡ old)
+
+-- The programs are chosen, and then they are listed.
+pub record ListsPrograms (form : Form) (asked : Option (List (List ℕ))) (env : Env) (tree : Nodes) (cache : Option (List CachedEntry)) (answer : Result AnswerText ListFault) (old new : StoreState) : Type 0 where
+  pub paths : Result (List (List ℕ)) SearchFault
+  pub middle : StoreState
+  pub chooses : Chooses asked tree paths old middle
+  pub lists : ListsChosen form paths env tree cache answer middle new
 
 -- ---- from what was read
 
@@ -100,7 +127,7 @@ cache_of None = Ok None
 cache_of (Some bytes) = result_map_both Some (λ d. d) (sorted_in bytes)
 
 -- the cache is malformed, or the programs are listed with it
-abbrev pub ListsWith : Form → List (List ℕ) → Env → Nodes → Result (Option (List CachedEntry)) CacheDefect → Result AnswerText ListFault → StoreState → StoreState → Type 0
+abbrev pub ListsWith : Form → Option (List (List ℕ)) → Env → Nodes → Result (Option (List CachedEntry)) CacheDefect → Result AnswerText ListFault → StoreState → StoreState → Type 0
 ListsWith form paths env tree (Err d) answer old new = (answer ≡ Err (faults.BadCache d)) × (new ≡ old)
 ListsWith form paths env tree (Ok cache) answer old new = ListsPrograms form paths env tree cache answer old new
 
@@ -122,9 +149,20 @@ pub record HasListing (env : Env) (tree : Nodes) (cache : Option (List CachedEnt
   pub says : object_at held tree real ≡ Some (Ok object)
   pub holds : (requests : ℕ) → lacks_one held (record_of tree cache path env held real object requests).keys ≡ false
 
--- each program that is asked for has a listing
-abbrev pub HaveListings : SystemDirs → Resolve → Nodes → Option (List CachedEntry) → Contents → Type 0
-HaveListings system asked tree cache held = AllByRecursion (HasListing (env_of system asked) tree cache held) asked.paths
+-- the paths of the programs that are asked for
+abbrev pub paths_in : Option (List (List ℕ)) → Contents → Nodes → List (List ℕ)
+paths_in (Some given) held tree = given
+paths_in None held tree = image_programs held tree
+
+-- the files that are opened to find the programs
+abbrev pub keys_in : Option (List (List ℕ)) → Nodes → List (List ℕ)
+keys_in (Some given) tree = []
+keys_in None tree = node_keys tree
+
+-- each program that is asked for has a listing, and the store holds each file that is opened to find the programs
+pub record HaveListings (system : SystemDirs) (asked : Resolve) (tree : Nodes) (cache : Option (List CachedEntry)) (held : Contents) : Type 0 where
+  pub found : lacks_one held (keys_in asked.paths tree) ≡ false
+  pub listed : AllByRecursion (HasListing (env_of system asked) tree cache held) (paths_in asked.paths held tree)
 
 -- the manifest has a tree, the cache is well-formed if there is one, and each program has a listing
 pub record IsAnswerable (asked : Resolve) (held : Contents) (slots : Slots) : Type 0 where

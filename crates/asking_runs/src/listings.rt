@@ -1,12 +1,13 @@
 //! The answers for several programs, and what they say of the programs.
 ghost use Rattle.std.specs.Prelude.{◌≡◌, ◌++◌, ◌||◌, flat_map, IfOk, OnOk};
-ghost use Rattle.asking_runs.specs.Listings.{body, fault_in, files_answer, first_fault, head, is_missing, is_missing_one, is_whole, json_answer, listed_text, listings_answer, part};
+ghost use Rattle.asking_runs.specs.Listings.{body, fault_in, files_answer, first_fault, head, is_missing, is_missing_one, is_whole, json_answer, listed_text, listings_answer, part, tree_body, tree_part, trees_answer};
 
 use command_status::{Answer, Status, add_fault_line};
 use json_answers::programs_json;
 use ldd_resolve::{Listing, ProgramFault, ProgramScope, ProgramScopes, Scope, listing_text};
 use lib_types::{Failed, NoMemory};
 use needed_files::{NeededFiles, list_text};
+use scope_tree::tree_text;
 use std::alloc::Global;
 use tree_face::{Sink, put_all};
 
@@ -133,6 +134,45 @@ fn text_of(alloc: Global, several: bool, programs: &[ProgramScope]) -> Result<Ve
     Ok(text)
 }
 
+// Adds a tree, or the fault line in its place.
+fn add_tree_body(
+    alloc: Global,
+    text: &mut Vec<u8>,
+    scope: &Result<Scope, ProgramFault>,
+) -> Result<(), NoMemory>
+    ensures { OnOk result (text.new.items ≡ text.old.items ++ tree_body scope.now) }
+{
+    match scope {
+        Ok(scope) => {
+            text.extend_from_slice(&tree_text(alloc, scope)?)?;
+            Ok(())
+        }
+        Err(fault) => add_fault_line(text, Status::from(*fault)),
+    }
+}
+
+fn add_tree_part(
+    alloc: Global,
+    text: &mut Vec<u8>,
+    several: bool,
+    program: &ProgramScope,
+) -> Result<(), NoMemory>
+    ensures { OnOk result (text.new.items ≡ text.old.items ++ tree_part several program.now) }
+{
+    add_head(text, several, program.path.as_bytes())?;
+    add_tree_body(alloc, text, &program.scope)
+}
+
+fn trees_of(alloc: Global, several: bool, programs: &[ProgramScope]) -> Result<Vec<u8>, NoMemory>
+    ensures { IfOk result (λ text. text.items ≡ flat_map (tree_part several) programs.now) }
+{
+    let mut text = Vec::new(alloc);
+    for program in programs {
+        add_tree_part(alloc, &mut text, several, program)?;
+    }
+    Ok(text)
+}
+
 // The answer with this text, where more may be missing than what the listings say.
 fn answer_with(text: Vec<u8>, is_lacking: bool, programs: &ProgramScopes) -> Listed
     ensures text { result.text.items ≡ text.items }
@@ -151,6 +191,14 @@ pub(crate) fn listings_for(alloc: Global, programs: &ProgramScopes) -> Result<Li
     ensures { IfOk result (λ listed. listed_text listed ≡ listings_answer programs.now) }
 {
     let text = text_of(alloc, programs.len() > 1, programs.as_slice())?;
+    Ok(answer_with(text, false, programs))
+}
+
+/// The trees of these programs.
+pub(crate) fn trees_for(alloc: Global, programs: &ProgramScopes) -> Result<Listed, NoMemory>
+    ensures { IfOk result (λ listed. listed_text listed ≡ trees_answer programs.now) }
+{
+    let text = trees_of(alloc, programs.len() > 1, programs.as_slice())?;
     Ok(answer_with(text, false, programs))
 }
 

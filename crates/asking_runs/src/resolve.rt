@@ -3,26 +3,27 @@ ghost use Rattle.std.specs.Prelude.{◌≡◌};
 ghost use Rattle.std.specs.Option.{option_copied};
 ghost use Rattle.tree_face.specs.Devices.{states};
 ghost use Rattle.tree_face.specs.Stream.{SourceState};
-ghost use Rattle.asking_runs.specs.Resolve.{AnswersAs, AnswersFiles, AnswersImage, ListsImage, ListsPrograms, ListsWith, ResolveRun, cache_of, env_of, listed_answer};
+ghost use Rattle.asking_runs.specs.Resolve.{AnswersAs, AnswersFiles, AnswersImage, Chooses, ListsImage, ListsPrograms, ListsWith, ResolveRun, cache_of, env_of, listed_answer};
 
 use crate::fault::ListFault;
-use crate::listings::{Listed, files_for, json_for, listings_for};
+use crate::listings::{Listed, files_for, json_for, listings_for, trees_for};
 use cache_lookup::{Sorted, sorted_cache};
 use command_status::{Status, end};
 use command_words::{Form, Resolve};
+use image_programs::image_programs;
 use image_session::{LoadFault, ReadImage, TreeSource, read_image};
 use ldd_resolve::{ProgramScopes, resolve_each};
 use lib_types::{Abi, Texts};
 use needed_files::needed_files;
-use rpath_search::{Env, SystemDirs};
+use rpath_search::{Env, SearchFault, SystemDirs};
 use std::alloc::Global;
 use tree_face::{Disk, Sink, Store, Tree};
 
-// The programs to list, the form of the answer, and the loader's environment.
+// The programs to list (None: all of the image), the form of the answer, and the loader's environment.
 #[derive(Drop)]
 struct Programs {
     form: Form,
-    paths: Texts,
+    paths: Option<Texts>,
     env: Env,
 }
 
@@ -78,7 +79,23 @@ fn answer_as<S: Store>(
     match form {
         Form::Listing => Ok(listings_for(alloc, scopes)?),
         Form::Json => Ok(json_for(alloc, scopes)?),
+        Form::Tree => Ok(trees_for(alloc, scopes)?),
         Form::Files { end } => answer_files(alloc, end, tree, store, scopes),
+    }
+}
+
+// The paths that are given, or those of all programs of the image.
+fn chosen<S: Store>(
+    alloc: Global,
+    paths: Option<Texts>,
+    tree: &Tree,
+    store: &mut S,
+) -> Result<Texts, SearchFault>
+    ensures { Chooses paths tree.now result (S.state store.old) (S.state store.new) }
+{
+    match paths {
+        Some(paths) => Ok(paths),
+        None => image_programs(alloc, tree, store),
     }
 }
 
@@ -93,6 +110,7 @@ fn list<S: Store>(
     ensures { ListsPrograms programs.form programs.paths programs.env tree.now (option_copied cache.entry) (listed_answer result) (S.state store.old) (S.state store.new) }
 {
     let Programs { form, paths, env } = programs;
+    let paths = chosen(alloc, paths, tree, store)?;
     let scopes = resolve_each(alloc, tree, store, cache, paths, &env)?;
     answer_as(alloc, form, tree, store, &scopes)
 }

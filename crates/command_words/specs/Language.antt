@@ -40,6 +40,10 @@ word_rule id = record (new_rule id) { required = true }
 abbrev pub words_rule : List ℕ → Rule
 words_rule id = record (word_rule id) { action = Some Append }
 
+-- any number, without a name
+abbrev pub any_words_rule : List ℕ → Rule
+any_words_rule id = record (new_rule id) { action = Some Append }
+
 -- `--ID VALUE` or `--ID=VALUE`, once at most
 abbrev pub option_rule : List ℕ → Rule
 option_rule id = record (new_rule id) { long = Some id }
@@ -70,9 +74,9 @@ asking = with_rule without_requests root_rule
 abbrev pub tagged : App
 tagged = with_rule without_requests (option_rule (codes "tag"))
 
--- programs for processors with some hwcaps names
+-- programs, for processors with some hwcaps names
 abbrev pub searched : App
-searched = with_rule (with_rule asking (words_rule (codes "PATH"))) (option_rule (codes "caps"))
+searched = with_rule (with_rule (with_rule asking (any_words_rule (codes "PATH"))) (flag_rule (codes "all"))) (option_rule (codes "caps"))
 
 -- the same, with what the loader is given beside the files
 abbrev pub loaded : App
@@ -86,4 +90,4 @@ app Layers = with_rule without_requests (words_rule (codes "KEY"))
 app Sample = with_rule without_requests (word_rule (codes "N"))
 app Print = with_rule asking (flag_rule (codes "json"))
 app Lookup = with_rule (with_rule (with_rule (with_rule asking (word_rule (codes "NAME"))) (option_rule (codes "abi"))) (option_rule (codes "caps"))) (flag_rule (codes "json"))
-app Resolve = with_rule (with_rule (with_rule loaded (flag_rule (codes "list"))) (letter_rule (codes "null") (byte "0"))) (flag_rule (codes "json"))
+app Resolve = with_rule (with_rule (with_rule (with_rule loaded (flag_rule (codes "list"))) (letter_rule (codes "null") (byte "0"))) (flag_rule (codes "json"))) (flag_rule (codes "tree"))

@@ -1,5 +1,5 @@
 -- The command of arguments.
-use Rattle.std.specs.Prelude.{◌≡◌, ◌==◌, ◌&&◌, nat_le, ⊤, ℕ, Bool, true, false, not, List, [], codes, length, Option, Some, None, Result, Ok, Err, option_map, option_and_then, unwrap_or, if◌then◌else◌}
+use Rattle.std.specs.Prelude.{◌≡◌, ◌==◌, ◌&&◌, nat_le, ⊤, ℕ, Bool, true, false, not, List, [], ◌∷◌, codes, length, Option, Some, None, Result, Ok, Err, option_map, option_and_then, unwrap_or, if◌then◌else◌}
 use Rattle.std.specs.List.{list_all}
 use Rattle.std.specs.Option.{option_map_or}
 use Rattle.clap.specs.declared.error.kind.ErrorKind.{ErrorKind}
@@ -15,7 +15,7 @@ use Rattle.command_words.specs.declared.line.CommandLine.{CommandLine}
 use Rattle.command_words.specs.declared.kinds.Command.{Command}
 use Rattle.command_words.specs.declared.kinds.Command.TheVariants as commands
 use Rattle.command_words.specs.declared.kinds.Form.{Form}
-use Rattle.command_words.specs.declared.kinds.Form.TheVariants.{Files, Json, Listing}
+use Rattle.command_words.specs.declared.kinds.Form.TheVariants.{Files, Json, Listing, Tree}
 use Rattle.command_words.specs.declared.kinds.Lookup.{Lookup}
 use Rattle.command_words.specs.declared.kinds.Resolve.{Resolve}
 use Rattle.tree_face.specs.declared.disk.Tag.{Tag}
@@ -62,18 +62,23 @@ abbrev pub lookup_by : List Row → Option Lookup
 lookup_by found = option_and_then (λ name. option_and_then (λ abi. option_map (λ caps. record { name = name; abi = abi; caps = caps; json = flag_by (codes "json") found })
     (caps_by found)) (abi_by found)) (value_by (codes "NAME") [] found)
 
--- `--list` ends each path by a newline, with `-0` by NUL; `-0` is for a list alone, and `--json` is not for a list
-abbrev pub form_of : Bool → Bool → Bool → Option Form
-form_of true true false = Some (Files 0)
-form_of true false false = Some (Files 10)
-form_of false true false = None
-form_of false false false = Some Listing
-form_of true null true = None
-form_of false true true = None
-form_of false false true = Some Json
+-- `--list` ends each path by a newline, with `-0` by NUL; `-0` is for a list alone
+abbrev pub list_form : Bool → Form
+list_form null = Files (if null then 0 else 10)
+
+-- at most one of `--list`, `--json` and `--tree` is given
+abbrev pub form_of : Bool → Bool → Bool → Bool → Option Form
+form_of true null false false = Some (list_form null)
+form_of false false true false = Some Json
+form_of false false false true = Some Tree
+form_of false false false false = Some Listing
+form_of true null true _ = None
+form_of true null false true = None
+form_of false true _ _ = None
+form_of false false true true = None
 
 abbrev pub form_by : List Row → Option Form
-form_by found = form_of (flag_by (codes "list") found) (flag_by (codes "null") found) (flag_by (codes "json") found)
+form_by found = form_of (flag_by (codes "list") found) (flag_by (codes "null") found) (flag_by (codes "json") found) (flag_by (codes "tree") found)
 
 -- all values of an argument, in order; None if one of them is not a value
 abbrev pub values_by : List ℕ → List Row → Option (List (List ℕ))
@@ -85,10 +90,20 @@ values_by id found =
 abbrev pub keys_by : List Row → Option (List (List ℕ))
 keys_by found = option_and_then (λ keys. if are_keys keys then Some keys else None) (values_by (codes "KEY") found)
 
+-- the programs' paths; with `--all` none are given
+abbrev pub paths_of : Bool → List (List ℕ) → Option (Option (List (List ℕ)))
+paths_of true [] = Some None
+paths_of true (path ∷ paths) = None
+paths_of false [] = None
+paths_of false (path ∷ paths) = Some (Some (path ∷ paths))
+
+abbrev pub paths_by : List Row → Option (Option (List (List ℕ)))
+paths_by found = option_and_then (paths_of (flag_by (codes "all") found)) (values_by (codes "PATH") found)
+
 abbrev pub resolve_by : List Row → Option Resolve
 resolve_by found = option_and_then (λ paths. option_and_then (λ caps. option_and_then (λ library_path. option_and_then (λ platform. option_map (λ form.
     record { paths = paths; caps = caps; library_path = library_path; platform = platform; secure = flag_by (codes "secure") found; form = form })
-    (form_by found)) (value_by (codes "platform") [] found)) (value_by (codes "library-path") [] found)) (caps_by found)) (values_by (codes "PATH") found)
+    (form_by found)) (value_by (codes "platform") [] found)) (value_by (codes "library-path") [] found)) (caps_by found)) (paths_by found)
 
 -- the command with these values, if all of them are valid
 abbrev pub command_by : Verb → List Row → Option Command

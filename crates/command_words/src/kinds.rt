@@ -23,13 +23,15 @@ pub enum Form {
     Files { end: u8 },
     /// `--json`: the libraries of each program, as JSON.
     Json,
+    /// `--tree`: each library below the object that first needed it.
+    Tree,
 }
 
 /// The programs whose libraries are listed, and what the loader is given beside the files.
 #[derive(Drop)]
 pub struct Resolve {
-    /// The programs' paths in the image.
-    pub paths: Texts,
+    /// The programs' paths in the image. None, if all programs and libraries of the image are listed.
+    pub paths: Option<Texts>,
     /// The hwcaps names that the processor has, the preferred one first.
     pub caps: Texts,
     /// `LD_LIBRARY_PATH`; empty, if there is none.

@@ -1,7 +1,7 @@
 //! The arguments of each command, as `clap` reads them.
 ghost use Rattle.std.specs.Prelude.{◌≡◌, false, IfOk};
 ghost use Rattle.clap.specs.Words.{app_of, rule_of, with_rule};
-ghost use Rattle.command_words.specs.Language.{app, asking, flag_rule, letter_rule, loaded, option_rule, root_rule, searched, tagged, without_requests, word_rule, words_rule};
+ghost use Rattle.command_words.specs.Language.{any_words_rule, app, asking, flag_rule, letter_rule, loaded, option_rule, root_rule, searched, tagged, without_requests, word_rule, words_rule};
 
 use crate::verb::Verb;
 use clap::builder::ValueParser;
@@ -22,6 +22,14 @@ fn words<'a>(alloc: Global, id: &'a str) -> Arg<'a>
     ensures local { result.global ≡ false }
 {
     word(alloc, id).action(ArgAction::Append)
+}
+
+// Any number of arguments, without a name.
+fn any_words<'a>(alloc: Global, id: &'a str) -> Arg<'a>
+    ensures rule { rule_of result ≡ any_words_rule id.entry.now }
+    ensures local { result.global ≡ false }
+{
+    Arg::new(alloc, id).action(ArgAction::Append)
 }
 
 // An option with one value.
@@ -125,8 +133,9 @@ fn lookup<'a>(alloc: Global) -> Result<Command<'a>, AllocError>
 fn searched<'a>(alloc: Global) -> Result<Command<'a>, AllocError>
     ensures { IfOk result (λ c. app_of c ≡ searched) }
 {
-    let named = with(asking(alloc)?, words(alloc, "PATH"))?;
-    with(named, option(alloc, "caps"))
+    let named = with(asking(alloc)?, any_words(alloc, "PATH"))?;
+    let with_all = with(named, flag(alloc, "all"))?;
+    with(with_all, option(alloc, "caps"))
 }
 
 // The same, with what the loader is given beside the files.
@@ -144,7 +153,8 @@ fn resolve<'a>(alloc: Global) -> Result<Command<'a>, AllocError>
 {
     let with_list = with(loaded(alloc)?, flag(alloc, "list"))?;
     let with_null = with(with_list, letter(alloc, "null", '0'))?;
-    with(with_null, flag(alloc, "json"))
+    let with_json = with(with_null, flag(alloc, "json"))?;
+    with(with_json, flag(alloc, "tree"))
 }
 
 /// The arguments of this command.

@@ -4,7 +4,7 @@ ghost use Rattle.std.specs.List.{list_all};
 ghost use Rattle.std.specs.String.{string_bytes};
 ghost use Rattle.clap.specs.Words.{all_of, app_of, fault_of, first_of, found_of, kind_of, matches_of, rows_of, takes};
 ghost use Rattle.command_words.specs.Language.{app, verb_in};
-ghost use Rattle.command_words.specs.Words.{FitsKind, Gives, Rejects, abi_by, are_taken, caps_by, command_by, flag_by, form_by, form_of, keys_by, line_by, line_in, lookup_by, resolve_by, root_by, size_by, tag_by, value_by, values_by, values_in};
+ghost use Rattle.command_words.specs.Words.{FitsKind, Gives, Rejects, abi_by, are_taken, caps_by, command_by, flag_by, form_by, form_of, keys_by, line_by, line_in, lookup_by, paths_by, resolve_by, root_by, size_by, tag_by, value_by, values_by, values_in};
 ghost use Rattle.command_words.specs.Values.{is_value};
 ghost use Rattle.command_words.specs.declared.fault.WordsFault.TheVariants as faults;
 
@@ -145,15 +145,24 @@ fn lookup_by(alloc: Global, found: &ArgMatches<'_>) -> Result<Lookup, WordsFault
 }
 
 // How the answer is written, if these flags can be given together.
-fn form_of(list: bool, null: bool, json: bool) -> Option<Form>
-    ensures { result ≡ form_of list null json }
+fn form_of(list: bool, null: bool, json: bool, tree: bool) -> Option<Form>
+    ensures { result ≡ form_of list null json tree }
 {
-    match (list, null, json) {
-        (true, true, false) => Some(Form::Files { end: 0 }),
-        (true, false, false) => Some(Form::Files { end: b'\n' }),
-        (false, false, true) => Some(Form::Json),
-        (false, false, false) => Some(Form::Listing),
-        (_, _, true) | (false, true, false) => None,
+    if list {
+        if json || tree {
+            return None;
+        }
+        let end = if null { 0 } else { b'\n' };
+        return Some(Form::Files { end });
+    }
+    if null {
+        return None;
+    }
+    match (json, tree) {
+        (true, false) => Some(Form::Json),
+        (false, true) => Some(Form::Tree),
+        (false, false) => Some(Form::Listing),
+        (true, true) => None,
     }
 }
 
@@ -162,9 +171,12 @@ fn form_by(found: &ArgMatches<'_>) -> Result<Form, WordsFault>
 {
     let list = flag_by(found, "list");
     let null = flag_by(found, "null");
-    match form_of(list, null, flag_by(found, "json")) {
+    let json = flag_by(found, "json");
+    match form_of(list, null, json, flag_by(found, "tree")) {
         Some(form) => Ok(form),
-        None => Err(WordsFault::Value("-0 is only for --list, and --json is not for --list")),
+        None => Err(WordsFault::Value(
+            "-0 is only for --list, and at most one of --list, --json and --tree is given",
+        )),
     }
 }
 
@@ -230,10 +242,24 @@ fn keys_by(alloc: Global, found: &ArgMatches<'_>) -> Result<Texts, WordsFault>
     }
 }
 
+// The programs' paths. With `--all` none are given.
+fn paths_by(alloc: Global, found: &ArgMatches<'_>) -> Result<Option<Texts>, WordsFault>
+    ensures { Gives (paths_by (rows_of (found_of found.now))) result }
+{
+    let all = flag_by(found, "all");
+    let paths = texts_by(alloc, found, "PATH")?;
+    match (all, paths.is_empty()) {
+        (true, true) => Ok(None),
+        (false, false) => Ok(Some(paths)),
+        (true, false) => Err(WordsFault::Value("--all takes no PATH")),
+        (false, true) => Err(WordsFault::Value("resolve takes PATH.. or --all")),
+    }
+}
+
 fn resolve_by(alloc: Global, found: &ArgMatches<'_>) -> Result<Resolve, WordsFault>
     ensures { Gives (resolve_by (rows_of (found_of found.now))) result }
 {
-    let paths = texts_by(alloc, found, "PATH")?;
+    let paths = paths_by(alloc, found)?;
     let caps = caps_by(alloc, found)?;
     let library_path = text_by(alloc, found, "library-path")?;
     let platform = text_by(alloc, found, "platform")?;

@@ -68,6 +68,7 @@ fn put_form(text: &mut Vec<u8>, form: Form) -> Result<(), NoMemory> {
     match form {
         Form::Listing => Ok(()),
         Form::Json => put_json(text, true),
+        Form::Tree => put_line(text, b"tree", b""),
         Form::Files { end: b'\n' } => put_line(text, b"list", b" newline"),
         Form::Files { end: 0 } => put_line(text, b"list", b" NUL"),
         Form::Files { .. } => put_line(text, b"list", b" other"),
@@ -75,7 +76,10 @@ fn put_form(text: &mut Vec<u8>, form: Form) -> Result<(), NoMemory> {
 }
 
 fn put_resolve(text: &mut Vec<u8>, resolve: &Resolve) -> Result<(), NoMemory> {
-    put_paths(text, &resolve.paths)?;
+    match &resolve.paths {
+        Some(paths) => put_paths(text, paths)?,
+        None => put_line(text, b"all", b"")?,
+    }
     put_caps(text, &resolve.caps)?;
     put_line(text, b"library_path=", resolve.library_path.as_bytes())?;
     put_line(text, b"platform=", resolve.platform.as_bytes())?;

@@ -18,8 +18,11 @@ const OF_SEVERAL: &str =
 
 /// The path whose libraries are listed, if they are those of one path alone.
 pub fn only_path(alloc: Global, asked: &Resolve) -> Result<Option<Text>, NoMemory> {
-    match (asked.form, asked.paths.as_slice()) {
-        (Form::Listing | Form::Json, [path]) => Ok(Some(path.copy(alloc)?)),
+    let Some(paths) = &asked.paths else {
+        return Ok(None);
+    };
+    match (asked.form, paths.as_slice()) {
+        (Form::Listing | Form::Json | Form::Tree, [path]) => Ok(Some(path.copy(alloc)?)),
         _ => Ok(None),
     }
 }

@@ -45,7 +45,7 @@ usage: ldconfig lookup NAME [--abi ABI] [--caps LIST] [--json] [-r ROOT]: the pa
 ";
 
 const RESOLVE_USAGE: &str = "\
-usage: ldconfig resolve PATH.. [--caps LIST] [--library-path LIST] [--platform TEXT] [--secure] [--list [-0] | --json] [-r ROOT]: the libraries that each program or library PATH of the image, or of the directory ROOT, loads, and from where, as ldd lists them, or with --json as JSON; with --list all files that they need, one a line for tar -T, or with -0 ended by NUL
+usage: ldconfig resolve {PATH.. | --all} [--caps LIST] [--library-path LIST] [--platform TEXT] [--secure] [--list [-0] | --json | --tree] [-r ROOT]: the libraries that each program or library PATH of the image, or of the directory ROOT, loads, and from where, as ldd lists them, with --json as JSON, or with --tree each below the one that first needed it; --all: of all programs and libraries; with --list all files that they need, one a line for tar -T, or with -0 ended by NUL
 ";
 
 const USAGE_END: &str =

@@ -18,5 +18,5 @@ pub(crate) fn read_image<S: Store>(
     ensures { ReadsImage keys.now result (S.state store.old) (S.state store.new) }
 {
     let trees = read_trees(alloc, store, keys)?;
-    Ok(union(alloc, &trees)?)
+    Ok(union(alloc, trees)?)
 }

@@ -1,7 +1,8 @@
 -- One more layer: its union, and its faults.
-use Rattle.std.proofs.Common.{◌≡◌, ℕ, ◌+◌, ◌<◌, ◌≤◌, true, false, cond, ◌==◌, not, List, [], ◌∷◌, length, get_or, position, take, Option, Some, None, Result, Ok, Err, OnOk, refl, sym, subst, arith}
+use Rattle.std.proofs.Common.{◌≡◌, ℕ, ◌+◌, ◌<◌, ◌≤◌, true, false, cond, ◌==◌, not, List, [], ◌∷◌, ◌-◌, drop, length, get_or, position, take, Option, Some, None, Result, Err, refl, sym, ap, subst, ◌∙◌, arith}
 use Rattle.std.proofs.lemmas.Bool.{and_parts}
 use Rattle.std.proofs.lemmas.Bool.Decides.{nat_tests}
+use Rattle.std.proofs.lemmas.List.{drop_more, length-drop}
 use Rattle.std.specs.Option.{is_some}
 use Rattle.std.specs.Result.{IfErr}
 use Rattle.lib_types.proofs.Bools.{not_true}
@@ -9,7 +10,7 @@ use Rattle.image_tree.specs.Tree as tree
 use Rattle.image_tree.specs.Tree.{Nodes, IsPathSorted, has_no_room, node_at}
 use Rattle.image_tree.specs.declared.node.Node.{Node}
 use Rattle.image_tree.specs.declared.tree.TheConstants.{NODES_MAX}
-use Rattle.layer_union.proofs.Layering.{bad_here, large_here, none_union, sound_more, union_more}
+use Rattle.layer_union.proofs.Layering.{bad_here, large_here, none_union}
 use Rattle.layer_union.proofs.Trees.{all_put_grows, put_new}
 use Rattle.layer_union.specs.Steps.{IsBadFault, IsFullFault, all_put, applied}
 use Rattle.layer_union.specs.Union.{AreSound, IsBadAt, IsTooLarge, IsUnion}
@@ -49,14 +50,6 @@ pub first_sound : (layers : List Nodes) → AreSound layers 0
 first_sound layers k l = absurd (omega arith)
 
 module _ (layers : List Nodes) (k : ℕ) (top t new : Nodes) (within : k < length layers) (is : top ≡ get_or layers k []) (union : IsUnion (take k layers) t) (sound : AreSound layers k) (sorted : IsPathSorted top) where
-  pub union_by : (r : Result (Unit {0}) UnionFault) → OnOk r (new ≡ applied t top) → OnOk r (IsUnion (take (k + 1) layers) new)
-  union_by (Ok x) a = subst (IsUnion (take (k + 1) layers)) (sym a) (union_more layers k top within is t union sorted)
-  union_by (Err fault) a = tt
-
-  pub sound_by : (r : Result (Unit {0}) UnionFault) → OnOk r (new ≡ applied t top) → OnOk r (length new ≤ NODES_MAX) → OnOk r (position (λ e. is_bad e.0) top ≡ None) → OnOk r (AreSound layers (k + 1))
-  sound_by (Ok x) a few good = sound_more layers k top within is new sound good (union_by (Ok x) a) few
-  sound_by (Err fault) a few good = tt
-
   pub bad_by : (r : Result (Unit {0}) UnionFault) → IfErr r (λ fault. IsBadFault top k fault) → (layer node : ℕ) → r ≡ Err (BadWhiteout layer node) → IsBadAt layers layer node
   bad_by r h layer node e =
       let parts : (layer ≡ k) × (position (λ (e : List ℕ × Node). is_bad e.0) top ≡ Some node) = subst (λ (z : Result (Unit {0}) UnionFault). IfErr z (λ fault. IsBadFault top k fault)) e h in
@@ -66,3 +59,21 @@ module _ (layers : List Nodes) (k : ℕ) (top t new : Nodes) (within : k < lengt
   full_by r h layer e =
       let parts : (layer ≡ k) × (position (λ (e : List ℕ × Node). is_bad e.0) top ≡ None) × (NODES_MAX < length (applied t top)) = subst (λ (z : Result (Unit {0}) UnionFault). IfErr z (λ fault. IsFullFault t top k fault)) e h in
       subst (IsTooLarge layers) (sym parts.0) (large_here layers k top within is t sound union sorted parts.1 parts.2)
+
+-- the layers that are left, of which the first is the layer at this index
+pub record IsNext (layers rest : List Nodes) (first : Nodes) (k : ℕ) : Type 0 where
+  pub within : k < length layers
+  pub is : first ≡ get_or layers k []
+  pub left : rest ≡ drop (k + 1) layers
+
+pub next_layer : (layers rest : List Nodes) (first : Nodes) (k : ℕ) → drop k layers ≡ first ∷ rest → IsNext layers rest first k
+next_layer layers rest first k e =
+    let size : length layers - k ≡ length (first ∷ rest) = sym (length-drop k layers) ∙ ap length e in
+    let within : k < length layers = omega arith in
+    let both : get_or layers k [] ∷ drop (k + 1) layers ≡ first ∷ rest = sym (drop_more layers k [] within) ∙ e in
+    let one : first ≡ get_or layers k [] = cc in
+    let others : rest ≡ drop (k + 1) layers = cc in
+    record { within = within; is = one; left = others }
+
+pub none_left : (layers : List Nodes) (k : ℕ) → length (drop k layers) ≡ 0 → length layers ≤ k
+none_left layers k e = let size = length-drop k layers in omega arith

@@ -101,16 +101,21 @@ fn bad_mark(layer: &Tree) -> Option<usize>
     layer.nodes().position(|(path, _)| is_bad(path))
 }
 
+// Whether the tree has special paths.
+fn has_special(tree: &Tree) -> bool
+    ensures { result ≡ list_any (λ e. is_special e.0) tree.now }
+{
+    tree.nodes().any(|(path, _)| is_special(path))
+}
+
 // Changes the tree into the union of it and a layer above it.
-fn add_layer(alloc: Global, tree: &mut Tree, layer: &Tree, index: usize) -> Result<(), UnionFault>
+fn merge(alloc: Global, tree: &mut Tree, layer: &Tree, index: usize) -> Result<(), UnionFault>
     ensures applied { OnOk result (tree.new ≡ applied tree.old layer.now) }
     ensures few { OnOk result (length tree.new ≤ NODES_MAX) }
-    ensures sorted { IsPathSorted layer.now }
     ensures good { OnOk result (position (λ e. is_bad e.0) layer.now ≡ None) }
     ensures bad { IfErr result (λ fault. IsBadFault layer.now index fault) }
     ensures full { IfErr result (λ fault. IsFullFault tree.old layer.now index fault) }
 {
-    layer.know();
     if let Some(node) = bad_mark(layer) {
         return Err(UnionFault::BadWhiteout { layer: index, node });
     }
@@ -125,37 +130,35 @@ fn add_layer(alloc: Global, tree: &mut Tree, layer: &Tree, index: usize) -> Resu
     }
 }
 
-// The layer at this index.
-fn layer_at(layers: &[Tree], index: usize) -> &Tree
-    requires { index < length layers.now }
-    ensures { result.now ≡ slice_index_or layers.now index [] }
+// Changes the tree into the union of it and a layer above it. Over nothing, a layer without special paths becomes the union itself. No
+// node of it is copied, as the lowest layer often has most of an image's nodes.
+#[tactic(auto, using(crate::proofs::Lowest::lowest, crate::proofs::Lowest::good_plain))]
+fn add_layer(alloc: Global, tree: &mut Tree, layer: Tree, index: usize) -> Result<(), UnionFault>
+    ensures applied { OnOk result (tree.new ≡ applied tree.old layer) }
+    ensures few { OnOk result (length tree.new ≤ NODES_MAX) }
+    ensures sorted { IsPathSorted layer }
+    ensures good { OnOk result (position (λ e. is_bad e.0) layer ≡ None) }
+    ensures bad { IfErr result (λ fault. IsBadFault layer index fault) }
+    ensures full { IfErr result (λ fault. IsFullFault tree.old layer index fault) }
 {
-    &layers[index]
-}
-
-// Changes the union of the layers before this index into the union of the layers up to it.
-fn add_at(alloc: Global, tree: &mut Tree, layers: &Trees, index: usize) -> Result<(), UnionFault>
-    requires within { index < length layers.now }
-    requires union { IsUnion (take index layers.now) tree.old }
-    requires sound { AreSound layers.now index }
-    ensures union { OnOk result (IsUnion (take (index + 1) layers.now) tree.new) }
-    ensures sound { OnOk result (AreSound layers.now (index + 1)) }
-    ensures bad { (layer node : ℕ) → result ≡ Err (UnionFault.BadWhiteout layer node) → IsBadAt layers.now layer node }
-    ensures full { (layer : ℕ) → result ≡ Err (UnionFault.Full layer) → IsTooLarge layers.now layer }
-{
-    add_layer(alloc, tree, layer_at(layers.as_slice(), index), index)
+    layer.know();
+    if tree.len() == 0 && !has_special(&layer) {
+        *tree = layer;
+        return Ok(());
+    }
+    merge(alloc, tree, &layer, index)
 }
 
 /// The union of the layers.
-pub fn union(alloc: Global, layers: &Trees) -> Result<Tree, UnionFault>
-    ensures union { IfOk result (IsUnion layers.now) }
-    ensures sound { IfOk result (λ _. AreSound layers.now (length layers.now)) }
-    ensures bad { (layer node : ℕ) → result ≡ Err (UnionFault.BadWhiteout layer node) → IsBadAt layers.now layer node }
-    ensures full { (layer : ℕ) → result ≡ Err (UnionFault.Full layer) → IsTooLarge layers.now layer }
+pub fn union(alloc: Global, layers: Trees) -> Result<Tree, UnionFault>
+    ensures union { IfOk result (IsUnion layers) }
+    ensures sound { IfOk result (λ _. AreSound layers (length layers)) }
+    ensures bad { (layer node : ℕ) → result ≡ Err (UnionFault.BadWhiteout layer node) → IsBadAt layers layer node }
+    ensures full { (layer : ℕ) → result ≡ Err (UnionFault.Full layer) → IsTooLarge layers layer }
 {
     let mut tree = Tree::new(alloc);
-    for index in 0..layers.len() {
-        add_at(alloc, &mut tree, layers, index)?;
+    for (index, layer) in layers.into_vec().into_iter().enumerate() {
+        add_layer(alloc, &mut tree, layer, index)?;
     }
     Ok(tree)
 }

@@ -4,7 +4,7 @@ ghost use Rattle.std.specs.List.{starts_with};
 ghost use Rattle.std.specs.Str.{bytes_eq};
 ghost use Rattle.layer_union.specs.Whiteouts.{is_special, is_bad, opaque_name, prefix, reserved};
 
-use lib_types::{Separator, is_name, split};
+use lib_types::{Separator, has_byte, is_name, split};
 use path_walk::parted;
 
 // The name that makes its directory opaque.
@@ -23,8 +23,8 @@ fn is_special_name(name: &[u8]) -> bool
     name.starts_with(PREFIX)
 }
 
-/// Whether a component of the path begins with `.wh.`.
-pub(crate) fn is_special(path: &[u8]) -> bool
+// Whether a component of the path is a special name.
+fn has_special_name(path: &[u8]) -> bool
     ensures { result ≡ is_special path.now }
 {
     for name in split(Separator::Byte(b'/'), path) {
@@ -33,6 +33,15 @@ pub(crate) fn is_special(path: &[u8]) -> bool
         }
     }
     false
+}
+
+/// Whether a component of the path begins with `.wh.`.
+#[tactic(auto, using(crate::proofs::Dots::plain_without_dot))]
+pub(crate) fn is_special(path: &[u8]) -> bool
+    ensures { result ≡ is_special path.now }
+{
+    // Many paths have no dot. One search for it is faster than one for each slash.
+    has_byte(b'.', path) && has_special_name(path)
 }
 
 /// Whether the name makes its directory opaque.

@@ -72,7 +72,7 @@ fn over_full(
     for word in words {
         layers.push(one(rt, alloc, word)?)?;
     }
-    Ok(union(alloc, &layers))
+    Ok(union(alloc, layers))
 }
 
 #[test]

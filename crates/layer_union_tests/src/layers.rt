@@ -67,7 +67,7 @@ pub(super) fn union_of(
     for (words, number) in layers.iter().zip(NUMBERS) {
         trees.push(layer(rt, alloc, words, number)?)?;
     }
-    Ok(union(alloc, &trees))
+    Ok(union(alloc, trees))
 }
 
 // Appends the word of a node, with a file's key or a link's target, and a bar.

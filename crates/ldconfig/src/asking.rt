@@ -63,7 +63,7 @@ where
 pub fn is_files(form: Form) -> bool {
     match form {
         Form::Files { .. } => true,
-        Form::Listing | Form::Json => false,
+        Form::Listing | Form::Json | Form::Tree => false,
     }
 }
 

@@ -12,12 +12,15 @@ use Rattle.elf_dynamic.specs.declared.kinds.Dynamic.{Dynamic}
 use Rattle.rpath_search.specs.declared.kinds.Found.{Found}
 use Rattle.ldd_resolve.specs.declared.kinds.Item.{Item}
 use Rattle.ldd_resolve.specs.declared.kinds.Member.{Member}
+use Rattle.ldd_resolve.specs.declared.kinds.Reply.{Reply}
+use Rattle.ldd_resolve.specs.declared.kinds.Reply.TheVariants.{Known, Loads, Missing}
+use Rattle.rpath_search.specs.declared.parts.Part.{Part}
 use Rattle.rpath_search.specs.declared.kinds.Env.{Env}
 use Rattle.ldd_resolve.specs.declared.loading.Loading.{Loading}
 use Rattle.ldd_resolve.specs.Links.{following, reach_in}
 use Rattle.rpath_search.specs.Searching.{is_among}
 use Rattle.ldd_resolve.specs.Listing.{Loaded, Record, Request, is_called, is_missing, item, loaded, named, names_by, needed_in, owner_of, places_of, requests, requests_of, soname_in, with_missing}
-use Rattle.ldd_resolve.specs.Loading.{AddsFound, AddsName, IsFoundIn, Matches, with_last_name}
+use Rattle.ldd_resolve.specs.Loading.{AddsFound, AddsName, IsFoundIn, IsLoadedIn, Matches, with_last_name}
 use Rattle.ldd_resolve.specs.Resolving.{member_of, members_of}
 use Rattle.ldd_resolve.proofs.MatchesKept.{among_at, called_there, drop_next, drop_one, linked_on, named_at, or_false, same_by, same_chain, same_needed, same_path, same_real, same_requests}
 use Rattle.lib_types.proofs.Bools.{and_true, and_false}
@@ -26,8 +29,9 @@ module _ (env : Env) (r r2 : Record) (s new : Loading) (n : ℕ) (q : Request) (
   -- the name isn't found
   pub missing_matches : r2.objects ≡ r.objects → r2.items ≡ with_missing q.name r.items → r2.found ≡ r.found → new.found ≡ s.found → new.loaders ≡ s.loaders → new.places ≡ s.places → new.names ≡ s.names →
       new.members.items ≡ s.members.items → new.pending.items ≡ s.pending.items → ((x : List ℕ) → is_among new.missing x ≡ (is_among s.missing x || bytes_eq x q.name)) →
-      new.items ≡ cond (is_among s.missing q.name) s.items (s.items ++ item q.name None ∷ []) → Matches env r2 new n rest
-  missing_matches objects items found kept links places names members pending missing listed = record {
+      new.items ≡ cond (is_among s.missing q.name) s.items (s.items ++ item q.name None ∷ []) → new.replies ≡ s.replies ++ Missing ∷ [] → r2.replies ≡ r.replies ++ Missing ∷ [] → Matches env r2 new n rest
+  missing_matches objects items found kept links places names members pending missing listed more replied = record {
+    replies = more ∙ ap (λ l. l ++ Missing ∷ []) matching.replies ∙ sym replied;
     linked = rw (links, objects) matching.linked;
     places = rw (places, objects) matching.places;
     names = λ x. rw (names, objects) (matching.names x);
@@ -58,7 +62,8 @@ module _ (env : Env) (r r2 : Record) (s new : Loading) (n : ℕ) (q : Request) (
           ∙ ap (λ b. list_any (is_missing x) r.items || b) (or_false (bytes_eq x q.name && true) ∙ and_true (bytes_eq x q.name)))
 
   -- the file is already loaded
-  pub loaded_matches : (number : ℕ) (path : List ℕ) → IsFoundIn r q number path r2 → IsDistinct bytes_eq s.places.loaded → is_among s.names q.name ≡ false → AddsName s new q.name path number → Matches env r2 new n rest
+  pub loaded_matches : (number : ℕ) (path : List ℕ) → IsFoundIn r q number path r2 → IsDistinct bytes_eq s.places.loaded → is_among s.names q.name ≡ false →
+      AddsName (record s { replies = s.replies ++ Known ∷ [] }) new q.name path number → Matches env r2 new n rest
   loaded_matches number path found distinct unknown adds =
       let real = get_or (places_of r.objects) number [] in
       let also = named real q.name in
@@ -70,8 +75,9 @@ module _ (env : Env) (r r2 : Record) (s new : Loading) (n : ℕ) (q : Request) (
         names = λ x. adds.names x ∙ ap (λ b. b || bytes_eq x q.name) (matching.names x) ∙ sym (ap (list_any (is_called x)) found.objects ∙ called_there real q.name r.objects x (among_at (places_of r.objects) number found.within));
         missing = λ x. rw (adds.missing, found.items) (matching.missing x);
         items = adds.items ∙ matching.items ∙ sym found.items;
+        replies = adds.replies ∙ ap (λ l. l ++ Known ∷ []) matching.replies ∙ sym found.replies;
         found = adds.found ∙ ap (λ l. l ++ path ∷ []) matching.found ∙ sym found.found;
-        members = (let d : Member = record { path = []; real = []; names = [] } in
+        members = (let d : Member = record { path = []; real = []; names = []; needed = [] } in
             adds.members d
             ∙ ap (λ l. set l number (with_last_name (get_or l number d) q.name)) matching.members
             ∙ named_at q.name r.objects number d (subst (IsDistinct bytes_eq) matching.places distinct) within (sym (matching.names q.name) ∙ unknown)
@@ -84,7 +90,7 @@ module _ (env : Env) (r r2 : Record) (s new : Loading) (n : ℕ) (q : Request) (
       }
 
   -- a new library is found
-  module _ (f : Found) (k : ℕ) where
+  module _ (f : Found) (k : ℕ) (part : Part) where
     abbrev path : List ℕ
     path = f.path
 
@@ -94,9 +100,14 @@ module _ (env : Env) (r r2 : Record) (s new : Loading) (n : ℕ) (q : Request) (
     abbrev o : Loaded
     o = loaded path f.real d (Some q.name) q.chain
 
-    pub found_matches : r2.objects ≡ r.objects ++ o ∷ [] → r2.items ≡ r.items ++ item q.name (Some path) ∷ [] → r2.found ≡ r.found ++ path ∷ [] → q.chain ≡ following (map (λ o. o.chain) r.objects) (Some k) → k < length s.loaders →
-        n ≤ length r.objects → 1 ≤ length r.objects → AddsFound env s new q.name f k → Matches env r2 new n rest
-    found_matches objects items found chain within few one adds =
+    pub found_matches : IsLoadedIn r q f part r2 → q.chain ≡ following (map (λ o. o.chain) r.objects) (Some k) → k < length s.loaders →
+        n ≤ length r.objects → 1 ≤ length r.objects →
+        AddsFound env (record s { replies = s.replies ++ Loads (length s.members.items) part ∷ [] }) new q.name f k → Matches env r2 new n rest
+    found_matches is chain within few one adds =
+        let objects = is.objects in
+        let items = is.items in
+        let found = is.found in
+        let count : length s.members.items ≡ length r.objects = ap length matching.members ∙ length-map r.objects member_of in
         let names_more = names_by (soname_in d) (Some q.name) in
         record {
           linked = rw (adds.loaders, objects) (linked_on env s.loaders r.objects o (owner_of path d) k matching.linked within (ap (λ c. owner_of path d ∷ c) chain));
@@ -107,6 +118,7 @@ module _ (env : Env) (r r2 : Record) (s new : Loading) (n : ℕ) (q : Request) (
               ∙ sym (ap (list_any (is_missing x)) items ∙ list_any-append (is_missing x) r.items (item q.name (Some path) ∷ [])
               ∙ ap (λ b. list_any (is_missing x) r.items || b) (or_false (bytes_eq x q.name && false) ∙ and_false (bytes_eq x q.name)) ∙ or_false (list_any (is_missing x) r.items));
           items = adds.listed ∙ ap (λ l. l ++ item q.name (Some path) ∷ []) matching.items ∙ sym items;
+          replies = adds.replies ∙ ap (λ l. l ++ Loads (length s.members.items) part ∷ []) matching.replies ∙ ap (λ i. r.replies ++ Loads i part ∷ []) count ∙ sym is.replies;
           found = adds.found ∙ ap (λ l. l ++ path ∷ []) matching.found ∙ sym found;
           members = adds.members ∙ ap (λ l. l ++ member_of o ∷ []) matching.members ∙ sym (ap members_of objects ∙ map-append member_of r.objects (o ∷ []));
           loaded = ap (λ l. map (λ (o : Loaded). o.path) (drop 1 l)) objects ∙ ap (map (λ (o : Loaded). o.path)) (drop-append-le 1 r.objects (o ∷ []) one) ∙ map-append (λ (o : Loaded). o.path) (drop 1 r.objects) (o ∷ [])

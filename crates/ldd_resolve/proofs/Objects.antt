@@ -55,9 +55,9 @@ from_drop (suc n) (y ∷ xs) x more d e = from_drop n xs x more d e
 
 module _ (env : Env) (r : Record) (s s2 : Loading) (n : ℕ) (needed : List (List ℕ)) where
   -- the object's needed names are taken from the queue
-  pub object_taken : Matches env r s n [] → s.pending.items ≡ needed ∷ s2.pending.items → s2.loaders ≡ s.loaders → s2.places ≡ s.places → s2.names ≡ s.names → s2.missing ≡ s.missing → s2.items ≡ s.items → s2.found ≡ s.found → s2.members ≡ s.members →
+  pub object_taken : Matches env r s n [] → s.pending.items ≡ needed ∷ s2.pending.items → s2.loaders ≡ s.loaders → s2.places ≡ s.places → s2.names ≡ s.names → s2.missing ≡ s.missing → s2.items ≡ s.items → s2.found ≡ s.found → s2.members ≡ s.members → s2.replies ≡ s.replies →
       IsAt env r s2 n (following (map (λ o. o.chain) r.objects) (Some n)) needed
-  object_taken matching queue links places names missing items found members = by (drop n r.objects) refl
+  object_taken matching queue links places names missing items found members replies = by (drop n r.objects) refl
     where
       by : (os : List Loaded) → drop n r.objects ≡ os → IsAt env r s2 n (following (map (λ o. o.chain) r.objects) (Some n)) needed
       by [] e = absurd (let none : needed ∷ s2.pending.items ≡ [] = sym queue ∙ matching.pending ∙ ap (map (λ (o : Loaded). o.needed)) e in cc)
@@ -79,6 +79,7 @@ module _ (env : Env) (r : Record) (s s2 : Loading) (n : ℕ) (needed : List (Lis
               names = rw names matching.names;
               missing = rw missing matching.missing;
               items = rw items matching.items;
+              replies = rw replies matching.replies;
               found = rw found matching.found;
               members = rw members matching.members;
               loaded = matching.loaded;
@@ -92,7 +93,7 @@ module _ (env : Env) (r : Record) (s s2 : Loading) (n : ℕ) (needed : List (Lis
 pub all_listed : (env : Env) (r : Record) (s : Loading) (n : ℕ) → Matches env r s n [] → s.pending.items ≡ [] → IsListed r (scope_in s)
 all_listed env r s n matching none = record {
   all = matching.left ∙ by (drop n r.objects) (sym matching.pending ∙ none);
-  scope = record { members = matching.members; listing = matching.items; found = matching.found };
+  scope = record { members = matching.members; listing = matching.items; replies = matching.replies; found = matching.found };
   loaded = rw (matching.members, matching.items) (ap (map (λ (m : Member). m.path)) (drop-map member_of 1 r.objects) ∙ map_map (drop 1 r.objects) ∙ matching.loaded);
 }
   where
@@ -106,9 +107,9 @@ all_listed env r s n matching none = record {
 
 module _ (known : Option Contents) (g : Given) (n : ℕ) (s s1 s2 : Loading) (a b c : StoreState) (so_far : AnswersObjects known g 0 n Complete s s1 a b)
     (needed : List (List ℕ)) (queue : s1.pending.items ≡ needed ∷ s2.pending.items) (links : s2.loaders ≡ s1.loaders) (places : s2.places ≡ s1.places) (names : s2.names ≡ s1.names)
-    (missing : s2.missing ≡ s1.missing) (items : s2.items ≡ s1.items) (found : s2.found ≡ s1.found) (members : s2.members ≡ s1.members) where
+    (missing : s2.missing ≡ s1.missing) (items : s2.items ≡ s1.items) (found : s2.found ≡ s1.found) (members : s2.members ≡ s1.members) (replies : s2.replies ≡ s1.replies) where
   taken : (r : Record) → Matches g.env.now r s1 n [] → IsAt g.env.now r s2 n (following (map (λ o. o.chain) r.objects) (Some n)) needed
-  taken r matching = object_taken g.env.now r s1 s2 n needed matching queue links places names missing items found members
+  taken r matching = object_taken g.env.now r s1 s2 n needed matching queue links places names missing items found members replies
 
   abbrev chain_in : Record → List Owner
   chain_in r = following (map (λ o. o.chain) r.objects) (Some n)
@@ -129,10 +130,10 @@ module _ (known : Option Contents) (g : Given) (n : ℕ) (s s1 s2 : Loading) (a 
 
 -- no object is left
 pub all_answered : (known : Option Contents) (g : Given) (n : ℕ) (s s1 s2 : Loading) (a b : StoreState) → AnswersObjects known g 0 n Complete s s1 a b → s1.pending.items ≡ [] →
-    s2.members ≡ s1.members → s2.items ≡ s1.items → s2.found ≡ s1.found → AnswersAll known g Complete s s2 a b
-all_answered known g n s s1 s2 a b so_far none members items found r matching =
+    s2.members ≡ s1.members → s2.items ≡ s1.items → s2.found ≡ s1.found → s2.replies ≡ s1.replies → AnswersAll known g Complete s s2 a b
+all_answered known g n s s1 s2 a b so_far none members items found replies r matching =
     advances_as (inputs_by g) r Complete (λ r2. Matches g.env.now r2 s1 n []) (λ r2. IsListed r2 (scope_in s2)) a b
-    (λ r2 here. rw (members, items, found) (all_listed g.env.now r2 s1 n here none)) known (so_far r matching)
+    (λ r2 here. rw (members, items, found, replies) (all_listed g.env.now r2 s1 n here none)) known (so_far r matching)
 
 -- before the first request of the object
 pub nothing_answered : (known : Option Contents) (g : Given) (n : ℕ) (chain : List Owner) (names rest : List (List ℕ)) (s : Loading) (a : StoreState) → names ≡ rest →

@@ -1,7 +1,8 @@
 -- The record of a listing, request by request.
 use Rattle.std.proofs.Common.{◌≡◌, ◌+◌, ℕ, zero, suc, false, true, List, ◌∷◌, refl, sym, ap, ◌∙◌, arith}
 use Rattle.std.specs.List.{list_any}
-use Rattle.ldd_resolve.specs.Listing.{Record, Request, Inputs, is_called, left, paths_of, record_after, with_answer, with_next, with_search}
+use Rattle.ldd_resolve.specs.Listing.{Record, Request, Inputs, is_called, left, paths_of, record_after, replied, with_answer, with_next, with_search}
+use Rattle.ldd_resolve.specs.declared.kinds.Reply.TheVariants.{Known}
 
 module _ (w : Inputs) (r : Record) where
   -- no request
@@ -16,7 +17,7 @@ module _ (w : Inputs) (r : Record) where
     record_one = ap (with_next w r) next
 
     -- a request for the name of an existing object
-    pub record_known : list_any (is_called q.name) r.objects ≡ true → record_after w r 1 ≡ record r { answered = r.answered + 1 }
+    pub record_known : list_any (is_called q.name) r.objects ≡ true → record_after w r 1 ≡ replied (record r { answered = r.answered + 1 }) Known
     record_known known = record_one ∙ rw known refl
 
     -- a request for a name that is searched

@@ -1,6 +1,6 @@
 -- The libraries that a program loads, and their paths (ld.so(8); ldd(1) lists them). The needed names of the program and of each library
 -- that was found are requests. They are answered one after another, breadth first.
-use Rattle.std.specs.Prelude.{◌&&◌, ℕ, zero, suc, ◌+◌, Bool, false, List, [], ◌∷◌, ◌++◌, map, take, drop, flat_map, if◌then◌else◌, Option, Some, None, is_none, option_and_then, option_map, option_to_list}
+use Rattle.std.specs.Prelude.{◌&&◌, ℕ, zero, suc, ◌+◌, Bool, false, List, [], ◌∷◌, ◌++◌, length, map, take, drop, flat_map, if◌then◌else◌, Option, Some, None, is_none, option_and_then, option_map, option_to_list}
 use Rattle.std.specs.List.{list_any}
 use Rattle.std.specs.Str.{bytes_eq}
 use Rattle.lib_types.specs.declared.abi.Abi.{Abi}
@@ -8,12 +8,17 @@ use Rattle.tree_face.specs.Store.{Contents}
 use Rattle.image_tree.specs.Tree.{Nodes}
 use Rattle.path_walk.specs.Files.{file_at}
 use Rattle.elf_dynamic.specs.declared.kinds.Dynamic.{Dynamic}
-use Rattle.rpath_search.specs.Places.{folder_of, paths}
+use Rattle.rpath_search.specs.Parts.{part_of}
+use Rattle.rpath_search.specs.Places.{folder_of, paths, reach_of}
 use Rattle.rpath_search.specs.Search.{first_good, library_at, looked_at}
 use Rattle.rpath_search.specs.Searching.{is_among, keys_next_to}
 use Rattle.rpath_search.specs.declared.kinds.Env.{Env}
 use Rattle.rpath_search.specs.declared.kinds.Owner.{Owner}
+use Rattle.rpath_search.specs.declared.parts.Part.{Part}
+use Rattle.rpath_search.specs.declared.parts.Part.TheVariants as part
 use Rattle.ldd_resolve.specs.declared.kinds.Item.{Item}
+use Rattle.ldd_resolve.specs.declared.kinds.Reply.{Reply}
+use Rattle.ldd_resolve.specs.declared.kinds.Reply.TheVariants.{Known, Loads, Missing}
 
 -- ---- the inputs of a listing
 
@@ -100,6 +105,8 @@ pub record Record : Type 0 where
   pub items : List Item
   -- each path by which an object was found, the program's first
   pub found : List (List ℕ)
+  -- one for each answered request
+  pub replies : List Reply
   -- the keys that were opened
   pub keys : List (List ℕ)
 
@@ -132,20 +139,32 @@ keys_searched held t abi places all =
 abbrev pub dynamic_at : Inputs → List ℕ → Option Dynamic
 dynamic_at w real = option_and_then (λ o. o.dynamic) (library_at w.held w.nodes w.env.abi real)
 
+-- the part of the search that gives a path
+abbrev pub part_along : Inputs → List ℕ → List ℕ → List Owner → Part
+part_along w name path [] = part.Default
+part_along w name path (owner ∷ loaders) = part_of name w.env (reach_of w.env owner loaders) (w.cached name) path
+
+abbrev pub part_for : Inputs → Request → List ℕ → Part
+part_for w q path = part_along w q.name path q.chain
+
+-- one more answered request
+abbrev pub replied : Record → Reply → Record
+replied r reply = record r { replies = r.replies ++ reply ∷ [] }
+
 -- If the file is a loaded object, the object gets the name. Otherwise a new object and an item are added. In both cases the path is one by
 -- which an object was found.
 abbrev pub with_file : Inputs → Record → Request → List ℕ → List ℕ → Record
 with_file w r q path real =
-    if is_among (places_of r.objects) real then record r { objects = map (named real q.name) r.objects; found = r.found ++ path ∷ [] } else
-    record r {
+    if is_among (places_of r.objects) real then replied (record r { objects = map (named real q.name) r.objects; found = r.found ++ path ∷ [] }) Known else
+    replied (record r {
       objects = r.objects ++ loaded path real (dynamic_at w real) (Some q.name) q.chain ∷ [];
       items = r.items ++ item q.name (Some path) ∷ [];
       found = r.found ++ path ∷ [];
-    }
+    }) (Loads (length r.objects) (part_for w q path))
 
 -- the record after a search: either nothing was found, or a path and the file to which it leads
 abbrev pub with_found : Inputs → Record → Request → Option (List ℕ × List ℕ) → Record
-with_found w r q None = record r { items = with_missing q.name r.items }
+with_found w r q None = replied (record r { items = with_missing q.name r.items }) Missing
 with_found w r q (Some found) = with_file w r q found.0 found.1
 
 -- the first good path, and the file to which it leads
@@ -157,7 +176,7 @@ with_search w r q all = with_found w (record r { keys = r.keys ++ keys_searched 
 
 -- If an object has the requested name, it is the answer. Otherwise the name is searched.
 abbrev pub with_answer : Inputs → Record → Request → Record
-with_answer w r q = if list_any (is_called q.name) r.objects then r else with_search w r q (paths_of w q)
+with_answer w r q = if list_any (is_called q.name) r.objects then replied r Known else with_search w r q (paths_of w q)
 
 -- answers the first of the remaining requests, if there is one
 abbrev pub with_next : Inputs → Record → List Request → Record

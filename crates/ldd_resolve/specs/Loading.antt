@@ -12,6 +12,8 @@ use Rattle.rpath_search.specs.Search.{is_library_at}
 use Rattle.rpath_search.specs.declared.kinds.Env.{Env}
 use Rattle.rpath_search.specs.declared.kinds.Found.{Found}
 use Rattle.ldd_resolve.specs.declared.loading.Loading.{Loading}
+use Rattle.ldd_resolve.specs.declared.loading.Searched.{Searched}
+use Rattle.rpath_search.specs.declared.parts.Part.{Part}
 use Rattle.rpath_search.specs.declared.search.Answer.{Answer}
 use Rattle.rpath_search.specs.declared.search.Answer.TheVariants as answer
 use Rattle.ldd_resolve.specs.Links.{following, reach_in}
@@ -19,6 +21,8 @@ use Rattle.rpath_search.specs.Searching.{AreKnown, is_among}
 use Rattle.ldd_resolve.specs.Listing.{Inputs, Record, Request, is_called, is_missing, item, left, loaded, named, names_by, needed_in, owner_of, places_of, record_after, requests, soname_in, with_missing}
 use Rattle.ldd_resolve.specs.Resolving.{members_of}
 use Rattle.ldd_resolve.specs.declared.kinds.Member.{Member}
+use Rattle.ldd_resolve.specs.declared.kinds.Reply.{Reply}
+use Rattle.ldd_resolve.specs.declared.kinds.Reply.TheVariants.{Known, Loads, Missing}
 use Rattle.ldd_resolve.specs.Searching.{BeginsHeld}
 
 -- ---- the state of the code matches the record
@@ -31,6 +35,7 @@ pub record Matches (env : Env) (r : Record) (s : Loading) (taken : ℕ) (rest : 
   pub names : (x : List ℕ) → is_among s.names x ≡ list_any (is_called x) r.objects
   pub missing : (x : List ℕ) → is_among s.missing x ≡ list_any (is_missing x) r.items
   pub items : s.items ≡ r.items
+  pub replies : s.replies ≡ r.replies
   pub found : s.found ≡ r.found
   pub members : s.members.items ≡ members_of r.objects
   pub loaded : map (λ o. o.path) (drop 1 r.objects) ≡ filter_map (λ i. i.path) r.items
@@ -61,13 +66,14 @@ pub record Grows (old new : Loading) : Type 0 where
 -- ---- one request
 
 -- a member is added, and its needed names are put into the queue
-pub record AddsMember (old new : Loading) (m : Member) (needed : List (List ℕ)) : Type 0 where
+pub record AddsMember (old new : Loading) (m : Member) : Type 0 where
   pub places : new.places ≡ record old.places { loaded = old.places.loaded ++ m.real ∷ [] }
   pub names : (x : List ℕ) → is_among new.names x ≡ (is_among old.names x || is_among m.names x)
   pub members : new.members.items ≡ old.members.items ++ m ∷ []
-  pub pending : new.pending.items ≡ old.pending.items ++ needed ∷ []
+  pub pending : new.pending.items ≡ old.pending.items ++ m.needed ∷ []
   pub missing : new.missing ≡ old.missing
   pub items : new.items ≡ old.items
+  pub replies : new.replies ≡ old.replies
   pub found : new.found ≡ old.found
   pub loaders : new.loaders ≡ old.loaders
 
@@ -76,10 +82,11 @@ pub record AddsFound (env : Env) (old new : Loading) (name : List ℕ) (f : Foun
   pub loaders : new.loaders ≡ old.loaders ++ reach_over env (owner_of f.path f.object.dynamic) (reach_at old.loaders loader) ∷ []
   pub places : new.places ≡ record old.places { loaded = old.places.loaded ++ f.real ∷ [] }
   pub names : (x : List ℕ) → is_among new.names x ≡ (is_among old.names x || is_among (names_by (soname_in f.object.dynamic) (Some name)) x)
-  pub members : new.members.items ≡ old.members.items ++ record { path = f.path; real = f.real; names = names_by (soname_in f.object.dynamic) (Some name) } ∷ []
+  pub members : new.members.items ≡ old.members.items ++ record { path = f.path; real = f.real; names = names_by (soname_in f.object.dynamic) (Some name); needed = needed_in f.object.dynamic } ∷ []
   pub pending : new.pending.items ≡ old.pending.items ++ needed_in f.object.dynamic ∷ []
   pub missing : new.missing ≡ old.missing
   pub listed : new.items ≡ old.items ++ item name (Some f.path) ∷ []
+  pub replies : new.replies ≡ old.replies
   pub found : new.found ≡ old.found ++ f.path ∷ []
 
 -- adds a name at the end
@@ -99,6 +106,7 @@ pub record AddsName (old new : Loading) (name path : List ℕ) (number : ℕ) : 
   pub places : new.places ≡ old.places
   pub missing : new.missing ≡ old.missing
   pub items : new.items ≡ old.items
+  pub replies : new.replies ≡ old.replies
   pub pending : new.pending.items ≡ old.pending.items
 
 -- a name that wasn't found is added
@@ -108,6 +116,7 @@ pub record AddsMissing (old new : Loading) (name : List ℕ) : Type 0 where
   pub loaders : new.loaders ≡ old.loaders
   pub places : new.places ≡ old.places
   pub names : new.names ≡ old.names
+  pub replies : new.replies ≡ old.replies
   pub found : new.found ≡ old.found
   pub members : new.members.items ≡ old.members.items
   pub pending : new.pending.items ≡ old.pending.items
@@ -117,23 +126,40 @@ pub record IsFoundIn (r : Record) (q : Request) (number : ℕ) (path : List ℕ)
   pub within : number < length (places_of r.objects)
   pub objects : r2.objects ≡ map (named (slice_index_or (places_of r.objects) number []) q.name) r.objects
   pub items : r2.items ≡ r.items
+  pub replies : r2.replies ≡ r.replies ++ Known ∷ []
   pub found : r2.found ≡ r.found ++ path ∷ []
 
--- the record after a request with this answer
+-- the record after a request whose name isn't found
+pub record IsMissingIn (r : Record) (q : Request) (r2 : Record) : Type 0 where
+  pub objects : r2.objects ≡ r.objects
+  pub items : r2.items ≡ with_missing q.name r.items
+  pub replies : r2.replies ≡ r.replies ++ Missing ∷ []
+  pub found : r2.found ≡ r.found
 
-abbrev pub HasOutcome : Record → Request → Option Answer → Record → Type 0
-HasOutcome r q None r2 = ((r2.objects ≡ r.objects) × (r2.items ≡ with_missing q.name r.items)) × (r2.found ≡ r.found)
-HasOutcome r q (Some (answer.Loaded i path)) r2 = IsFoundIn r q i path r2
-HasOutcome r q (Some (answer.New f)) r2 =
-    ((r2.objects ≡ r.objects ++ loaded f.path f.real f.object.dynamic (Some q.name) q.chain ∷ [])
-    × (r2.items ≡ r.items ++ item q.name (Some f.path) ∷ []))
-    × (r2.found ≡ r.found ++ f.path ∷ [])
+-- the record after a request whose answer is this new library, which this part of the search gives
+pub record IsLoadedIn (r : Record) (q : Request) (f : Found) (part : Part) (r2 : Record) : Type 0 where
+  pub objects : r2.objects ≡ r.objects ++ loaded f.path f.real f.object.dynamic (Some q.name) q.chain ∷ []
+  pub items : r2.items ≡ r.items ++ item q.name (Some f.path) ∷ []
+  pub replies : r2.replies ≡ r.replies ++ Loads (length r.objects) part ∷ []
+  pub found : r2.found ≡ r.found ++ f.path ∷ []
+
+-- the record after a request with this answer, which this part of the search gives
+abbrev pub HasOutcome : Record → Request → Option Answer → Part → Record → Type 0
+HasOutcome r q None part r2 = IsMissingIn r q r2
+HasOutcome r q (Some (answer.Loaded i path)) part r2 = IsFoundIn r q i path r2
+HasOutcome r q (Some (answer.New f)) part r2 = IsLoadedIn r q f part r2
+
+-- the reply for an answer, if there are this many members
+abbrev pub reply_to : ℕ → Part → Option Answer → Reply
+reply_to members part None = Missing
+reply_to members part (Some (answer.Loaded i path)) = Known
+reply_to members part (Some (answer.New f)) = Loads members part
 
 -- If the old state matches a record, the new state matches the next record. That one has this answer to one more request, which the
 -- object with this number makes for this name.
-abbrev pub TakesAnswer : Env → Loading → Loading → List ℕ → Option Answer → ℕ → Type 0
-TakesAnswer env old new name answer loader =
-    (r r2 : Record) (q : Request) (rest : List Request) → Matches env r old (suc loader) (q ∷ rest) → HasOutcome r q answer r2
+abbrev pub TakesAnswer : Env → Loading → Loading → List ℕ → Searched → ℕ → Type 0
+TakesAnswer env old new name searched loader =
+    (r r2 : Record) (q : Request) (rest : List Request) → Matches env r old (suc loader) (q ∷ rest) → HasOutcome r q searched.answer searched.part r2
     → r2.answered ≡ suc r.answered → q.name ≡ name → q.chain ≡ following (map (λ o. o.chain) r.objects) (Some loader) → Matches env r2 new (suc loader) rest
 
 -- ---- progress of a listing

@@ -8,6 +8,8 @@ use Rattle.image_tree.specs.Tree.{Nodes, node_at}
 use Rattle.cache_reader.specs.Cache.{CachedEntry}
 use Rattle.rpath_search.specs.Faults.{search_ending}
 use Rattle.rpath_search.specs.Candidates.{all_paths}
+use Rattle.rpath_search.specs.Loaders.{reach_at}
+use Rattle.rpath_search.specs.Parts.{part_of}
 use Rattle.rpath_search.specs.Places.{Reach, env_for, paths}
 use Rattle.rpath_search.specs.Search.{first_good, is_library}
 use Rattle.rpath_search.specs.declared.fault.SearchFault.{SearchFault}
@@ -17,7 +19,9 @@ use Rattle.rpath_search.specs.declared.kinds.Owner.{Owner}
 use Rattle.ldd_resolve.specs.declared.kinds.Scope.{Scope}
 use Rattle.ldd_resolve.specs.declared.loading.Loading.{Loading}
 use Rattle.ldd_resolve.specs.declared.requests.Given.{Given}
+use Rattle.rpath_search.specs.declared.parts.Part.{Part}
 use Rattle.rpath_search.specs.declared.search.Answer.{Answer}
+use Rattle.rpath_search.specs.declared.search.Answer.TheVariants as answer
 use Rattle.rpath_search.specs.declared.search.LoadedFiles.{LoadedFiles}
 use Rattle.ldd_resolve.specs.Links.{following}
 use Rattle.ldd_resolve.specs.Listing.{Inputs, Record, Request, keys_searched, left, loaded}
@@ -46,6 +50,13 @@ AreKnownBy known g loaded = IfKnown known (λ held. AreKnown held g.tree.now g.e
 abbrev pub FindsBy : Option Contents → Given → List (List ℕ) → List (List ℕ) → Option Answer → Type 0
 FindsBy known g loaded all a =
     IfKnown known (λ held. Finds held g.tree.now g.env.now.abi loaded (first_good held g.tree.now g.env.now.abi all) a)
+
+-- the part of the search that gives the path of a new library, which the object with this number needs
+abbrev pub IsPartAt : Given → Loading → ℕ → List ℕ → Option Answer → Part → Type 0
+IsPartAt g s number name None part = Unit {0}
+IsPartAt g s number name (Some (answer.Loaded i path)) part = Unit {0}
+IsPartAt g s number name (Some (answer.New f)) part =
+    part ≡ part_of name g.env.now (reach_at s.loaders number) (cached_in (option_copied g.cache) g.env.now name) f.path
 
 abbrev pub BeginsPaths : Option Contents → Given → List (List ℕ) → List (List ℕ) → Ending → StoreState → StoreState → Type 0
 BeginsPaths known g loaded all ending old new = Begins known (λ held. keys_searched held g.tree.now g.env.now.abi loaded all) ending old new
@@ -81,7 +92,7 @@ pub record IsListed (r : Record) (s : Scope) : Type 0 where
 
 -- the scope in the state
 abbrev pub scope_in : Loading → Scope
-scope_in s = record { members = s.members.items; listing = s.items; found = s.found }
+scope_in s = record { members = s.members.items; listing = s.items; replies = s.replies; found = s.found }
 
 abbrev pub AnswersAll : Option Contents → Given → Ending → Loading → Loading → StoreState → StoreState → Type 0
 AnswersAll known g ending s s2 old new =
@@ -98,7 +109,7 @@ pub record IsEven (s : Loading) (taken : ℕ) : Type 0 where
 
 -- the record of only the program
 abbrev pub record_with : Found → List (List ℕ) → Record
-record_with p keys = record { objects = loaded p.path p.real p.object.dynamic None [] ∷ []; answered = 0; items = []; found = p.path ∷ []; keys = keys }
+record_with p keys = record { objects = loaded p.path p.real p.object.dynamic None [] ∷ []; answered = 0; items = []; replies = []; found = p.path ∷ []; keys = keys }
 
 -- the program's file, if it isn't a library
 abbrev pub outsider_of : Found → Option (List ℕ)

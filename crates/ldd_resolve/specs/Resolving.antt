@@ -53,6 +53,7 @@ first_record t word real o =
       objects = loaded (from_root word) real o.dynamic None [] ∷ [];
       answered = 0;
       items = [];
+      replies = [];
       found = from_root word ∷ [];
       keys = file_keys t (real ∷ []);
     }
@@ -74,16 +75,17 @@ pub record EndsIn (t : Nodes) (cache : Option (List CachedEntry)) (word : List �
 -- ---- the scope
 
 abbrev pub member_of : Loaded → Member
-member_of o = record { path = o.path; real = o.real; names = o.names }
+member_of o = record { path = o.path; real = o.real; names = o.names; needed = o.needed }
 
 -- in load order: the index of a member is the number of its object
 abbrev pub members_of : List Loaded → List Member
 members_of objects = map member_of objects
 
--- the members, the items and the paths of this record
+-- the members, the items, the replies and the paths of this record
 pub record IsScopeOf (scope : Scope) (r : Record) : Type 0 where
   pub members : scope.members ≡ members_of r.objects
   pub listing : scope.listing ≡ r.items
+  pub replies : scope.replies ≡ r.replies
   pub found : scope.found ≡ r.found
 
 abbrev pub IsScope : Nodes → Option (List CachedEntry) → List ℕ → Env → Contents → Scope → Type 0

@@ -5,7 +5,7 @@ ghost use Rattle.ldd_resolve.specs.declared.kinds.ResolveFault.TheVariants as fa
 
 use elf_dynamic::ObjectFault;
 use lib_types::{Defect, NoMemory, Seq, Text, Texts};
-use rpath_search::SearchFault;
+use rpath_search::{Part, SearchFault};
 
 /// A needed name with the path at which the loader finds it.
 #[derive(Drop)]
@@ -27,10 +27,26 @@ pub struct Member {
     pub real: Text,
     /// Its DT_SONAME, if it has one, and then the names of the requests that it answered, each once.
     pub names: Texts,
+    /// The names of its requests, in order.
+    pub needed: Texts,
 }
 
 /// Members in load order, the program first.
 pub type Members = Seq<Member>;
+
+/// How a request ended.
+#[derive(Clone, Copy, Debug, PartialEq, Eq)]
+pub enum Reply {
+    /// The library is a member that was loaded before.
+    Known,
+    /// The member with this index was loaded, and this part of the search gives its path.
+    Loads { number: usize, part: Part },
+    /// The library isn't found.
+    Missing,
+}
+
+/// Replies in the order of the requests: those of the first member's needed names, then those of the second one's, and so on.
+pub type Replies = Seq<Reply>;
 
 /// The objects that a program loads.
 #[derive(Drop)]
@@ -38,6 +54,7 @@ pub struct Scope {
     pub members: Members,
     /// The requests that loaded a member and those that weren't found, in order.
     pub listing: Listing,
+    pub replies: Replies,
     /// Each path by which a member was found, in order, the program's first.
     pub found: Texts,
 }

@@ -11,7 +11,9 @@ mod resolving;
 
 pub use each::resolve_each;
 pub use kinds::{
-    Item, Listing, Member, Members, ProgramFault, ProgramScope, ProgramScopes, ResolveFault, Scope,
+    Item, Listing, Member, Members, ProgramFault, ProgramScope, ProgramScopes, Replies, Reply,
+    ResolveFault, Scope,
 };
+pub use names::add_names;
 pub use printing::listing_text;
 pub use resolving::scope;

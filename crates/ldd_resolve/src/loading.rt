@@ -1,5 +1,5 @@
 //! The state of a listing while requests are answered.
-ghost use Rattle.std.specs.Prelude.{◌≡◌, ◌<◌, [], Option, false, length, option_to_list, IfOk, IfSome, OnOk};
+ghost use Rattle.std.specs.Prelude.{◌≡◌, ◌<◌, ◌++◌, ◌∷◌, [], Option, false, length, option_to_list, IfOk, IfSome, OnOk};
 ghost use Rattle.std.specs.List.{IsDistinct};
 ghost use Rattle.std.specs.Option.{option_copied};
 ghost use Rattle.std.specs.Str.{bytes_eq};
@@ -8,18 +8,26 @@ ghost use Rattle.tree_face.specs.Store.{Contents};
 ghost use Rattle.image_tree.specs.Tree.{Nodes};
 ghost use Rattle.rpath_search.specs.Searching.{is_among};
 ghost use Rattle.ldd_resolve.specs.Listing.{needed_in, owner_of, soname_in};
-ghost use Rattle.ldd_resolve.specs.Loading.{AddsFound, AddsMember, AddsMissing, AddsName, Grows, IsSound, IsSoundAnswer, TakesAnswer};
+ghost use Rattle.ldd_resolve.specs.Loading.{AddsFound, AddsMember, AddsMissing, AddsName, Grows, IsSound, IsSoundAnswer, TakesAnswer, reply_to};
 ghost use Rattle.ldd_resolve.specs.Requests.{IsEven, MatchesFirst, StartsSound, outsider_of};
 ghost use Rattle.ldd_resolve.specs.Searching.{IsUnloaded};
 
-use crate::kinds::{Item, Listing, Member};
-use crate::names::{add_name_at, add_names, names_by};
+use crate::kinds::{Item, Listing, Member, Replies, Reply};
+use crate::names::{add_name_at, add_names, copies_of, names_by};
 use elf_dynamic::kinds::Dynamic;
 use lib_types::{NoMemory, Text, Texts};
-use rpath_search::{Answer, Env, Found, LoadedFiles, Loaders, Owner, folder_of, is_library};
+use rpath_search::{Answer, Env, Found, LoadedFiles, Loaders, Owner, Part, folder_of, is_library};
 use std::alloc::Global;
 use std::collections::VecDeque;
 use string_pool::TextSet;
+
+/// The result of a search.
+#[derive(Drop)]
+pub(crate) struct Searched {
+    pub answer: Option<Answer>,
+    /// The part of the search that gives the path, if the answer is a new library.
+    pub part: Part,
+}
 
 /// The objects that were loaded and the items that were listed so far.
 #[derive(Drop)]
@@ -33,6 +41,7 @@ pub(crate) struct Loading {
     /// In the order of the objects' numbers.
     pub members: Vec<Member>,
     pub items: Listing,
+    pub replies: Replies,
     /// Each path by which an object was found.
     pub found: Texts,
     /// The needed names of the objects whose requests aren't answered yet.
@@ -77,6 +86,20 @@ fn parts_of(alloc: Global, path: &[u8], dynamic: Option<Dynamic>) -> Result<Part
     }
 }
 
+// The reply for a result of a search, if there are this many members.
+fn reply_to(members: usize, part: Part, answer: &Option<Answer>) -> Reply
+    ensures { result ≡ reply_to members part answer.now }
+{
+    match answer {
+        Some(Answer::Loaded { .. }) => Reply::Known,
+        Some(Answer::New(_)) => Reply::Loads {
+            number: members,
+            part,
+        },
+        None => Reply::Missing,
+    }
+}
+
 // The program's file, if it isn't a library.
 fn outsider_of(alloc: Global, program: &Found) -> Result<Option<Text>, NoMemory>
     ensures { IfOk result (λ o. o ≡ outsider_of program.now) }
@@ -97,6 +120,7 @@ impl Loading {
         ensures missing { result.missing ≡ [] }
         ensures members { result.members.items ≡ [] }
         ensures items { result.items ≡ [] }
+        ensures replies { result.replies ≡ [] }
         ensures found { result.found ≡ [] }
         ensures pending { result.pending.items ≡ [] }
     {
@@ -110,6 +134,7 @@ impl Loading {
             missing: TextSet::new(alloc),
             members: Vec::new(alloc),
             items: Listing::new(alloc),
+            replies: Replies::new(alloc),
             found: Texts::new(alloc),
             pending: VecDeque::new(alloc),
         }
@@ -132,20 +157,26 @@ impl Loading {
         let loaders = Loaders::new(alloc, env, &owner)?;
         let mut loading = Loading::empty(alloc, loaders, outsider);
         loading.found.push(Text::copy_of(alloc, path.as_bytes())?)?;
-        loading.add_member(alloc, Member { path, real, names }, needed)?;
+        let program = Member {
+            path,
+            real,
+            names,
+            needed,
+        };
+        loading.add_member(alloc, program)?;
         Ok(loading)
     }
 
     // Adds a member and puts its needed names into the queue.
-    fn add_member(&mut self, alloc: Global, member: Member, needed: Texts) -> Result<(), NoMemory>
+    fn add_member(&mut self, alloc: Global, member: Member) -> Result<(), NoMemory>
         requires { is_among self.old.places.loaded member.real ≡ false }
-        ensures { OnOk result (AddsMember self.old self.new member needed) }
+        ensures { OnOk result (AddsMember self.old self.new member) }
     {
         let real = Text::copy_of(alloc, member.real.as_bytes())?;
         self.places.loaded.insert(real)?;
         add_names(alloc, &mut self.names, &member.names)?;
+        self.pending.push_back(copies_of(alloc, &member.needed)?)?;
         self.members.push(member)?;
-        self.pending.push_back(needed)?;
         Ok(())
     }
 
@@ -172,7 +203,13 @@ impl Loading {
         let names = names_by(alloc, soname, Some(name.as_bytes()))?;
         let listed = Text::copy_of(alloc, path.as_bytes())?;
         self.found.push(Text::copy_of(alloc, path.as_bytes())?)?;
-        self.add_member(alloc, Member { path, real, names }, needed)?;
+        let member = Member {
+            path,
+            real,
+            names,
+            needed,
+        };
+        self.add_member(alloc, member)?;
         self.items.push(Item {
             name,
             path: Some(listed),
@@ -206,25 +243,35 @@ impl Loading {
         self.items.push(Item { name, path: None })
     }
 
+    /// Adds the reply to a request.
+    pub(crate) fn add_reply(&mut self, reply: Reply) -> Result<(), NoMemory>
+        ensures { OnOk result (self.new ≡ record self.old { replies = self.old.replies ++ reply ∷ [] }) }
+    {
+        self.replies.push(reply)
+    }
+
     /// Adds the result of a search for a name that the object with this number needs.
     pub(crate) fn take_answer(
         &mut self,
         alloc: Global,
         env: &Env,
         name: Text,
-        answer: Option<Answer>,
+        searched: Searched,
         loader: usize,
     ) -> Result<(), NoMemory>
         requires loader { loader < length self.old.loaders }
-        requires new { IsUnloaded self.old.places.loaded answer }
+        requires new { IsUnloaded self.old.places.loaded searched.answer }
         requires unknown { is_among self.old.names name ≡ false }
         requires members { length self.old.members.items ≡ length self.old.places.loaded }
         requires distinct { IsDistinct bytes_eq self.old.places.loaded }
-        ensures matching { OnOk result (TakesAnswer env.now self.old self.new name answer loader) }
-        ensures sound { (known : Option Contents) (t : Nodes) (abi : Abi) → IsSound known t abi self.old → IsSoundAnswer known t abi answer
+        ensures matching { OnOk result (TakesAnswer env.now self.old self.new name searched loader) }
+        ensures sound { (known : Option Contents) (t : Nodes) (abi : Abi) → IsSound known t abi self.old → IsSoundAnswer known t abi searched.answer
             → OnOk result (IsSound known t abi self.new) }
         ensures grows { OnOk result (Grows self.old self.new) }
     {
+        let Searched { answer, part } = searched;
+        let number = self.members.len();
+        self.add_reply(reply_to(number, part, &answer))?;
         match answer {
             Some(Answer::Loaded { number, path }) => self.add_name(alloc, name, path, number),
             Some(Answer::New(found)) => self.add_found(alloc, env, name, found, loader),

@@ -44,8 +44,19 @@ pub(crate) fn names_by(
     Ok(names)
 }
 
+/// A copy of these names.
+pub(crate) fn copies_of(alloc: Global, names: &Texts) -> Result<Texts, NoMemory>
+    ensures { IfOk result (λ copies. copies ≡ names.now) }
+{
+    let mut copies = Texts::new(alloc);
+    for name in names.as_slice() {
+        copies.push(name.copy(alloc)?)?;
+    }
+    Ok(copies)
+}
+
 /// Adds these names to the set of all objects' names.
-pub(crate) fn add_names(alloc: Global, all: &mut TextSet, names: &Texts) -> Result<(), NoMemory>
+pub fn add_names(alloc: Global, all: &mut TextSet, names: &Texts) -> Result<(), NoMemory>
     ensures { OnOk result ((x : List ℕ) → is_among all.new x ≡ (is_among all.old x || is_among names.now x)) }
 {
     for name in names.as_slice() {

@@ -5,14 +5,15 @@ ghost use Rattle.std.specs.Option.{option_copied};
 ghost use Rattle.rpath_search.specs.Faults.{search_ending};
 ghost use Rattle.rpath_search.specs.Loaders.{reach_at};
 ghost use Rattle.ldd_resolve.specs.Loading.{Grows, IsSound};
-ghost use Rattle.ldd_resolve.specs.Requests.{Answers, AnswersAll, AreKnownBy, BeginsPaths, FindsBy, IsEven, paths_at};
+ghost use Rattle.ldd_resolve.specs.Requests.{Answers, AnswersAll, AreKnownBy, BeginsPaths, FindsBy, IsEven, IsPartAt, paths_at};
 ghost use Rattle.ldd_resolve.specs.Resolving.{cached_in};
 ghost use Rattle.rpath_search.specs.Searching.{IsNew};
 
-use crate::loading::Loading;
+use crate::kinds::Reply;
+use crate::loading::{Loading, Searched};
 use cache_lookup::{Counted, Sorted, lookup};
-use lib_types::{Text, Texts};
-use rpath_search::{Answer, Candidates, Env, SearchFault, search_paths};
+use lib_types::{NoMemory, Text, Texts};
+use rpath_search::{Answer, Candidates, Env, Part, SearchFault, Wanted, part_of, search_paths};
 use std::alloc::Global;
 use tree_face::{Store, Tree};
 
@@ -63,6 +64,35 @@ fn search_name<S: Store>(
     )
 }
 
+// The part of the search that gives the path of a new library, which the object with this number needs by this name.
+fn part_for(
+    alloc: Global,
+    given: &Given<'_, '_>,
+    loading: &Loading,
+    number: usize,
+    name: &[u8],
+    answer: &Option<Answer>,
+) -> Result<Part, NoMemory>
+    requires { number < length loading.now.loaders }
+    ensures { IfOk result (IsPartAt given.now loading.now number name.now answer.now) }
+{
+    let Some(Answer::New(found)) = answer else {
+        return Ok(Part::Default);
+    };
+    let wanted = Wanted {
+        name,
+        env: given.env,
+        cached: cached_path(given.cache, name, given.env),
+    };
+    part_of(
+        alloc,
+        &loading.loaders,
+        number,
+        &wanted,
+        found.path.as_bytes(),
+    )
+}
+
 // Answers a request of the object with this number.
 fn answer_request<S: Store>(
     alloc: Global,
@@ -81,10 +111,13 @@ fn answer_request<S: Store>(
     ensures held { (S.state store.new).held ≡ (S.state store.old).held }
 {
     if loading.names.contains(name.as_bytes()) {
+        loading.add_reply(Reply::Known)?;
         return Ok(());
     }
     let answer = search_name(alloc, given, store, loading, number, name.as_bytes())?;
-    loading.take_answer(alloc, given.env, name, answer, number)?;
+    let part = part_for(alloc, given, loading, number, name.as_bytes(), &answer)?;
+    let searched = Searched { answer, part };
+    loading.take_answer(alloc, given.env, name, searched, number)?;
     Ok(())
 }
 

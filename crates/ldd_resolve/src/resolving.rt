@@ -65,13 +65,14 @@ fn load<S: Store>(
         Ok(()) => Ok(Scope {
             members: Members::from_vec(loading.members),
             listing: loading.items,
+            replies: loading.replies,
             found: loading.found,
         }),
         Err(fault) => Err(fault),
     }
 }
 
-/// The members that a program loads, with their paths and names, the listing of the requests, and the paths by which members were found.
+/// The members that a program loads, with their paths and names, the listing of the requests, the replies to them, and the paths by which members were found.
 /// The program's ABI replaces that of `env`. The search skips a cache that doesn't exist.
 ///
 /// A loaded file isn't read again, and each file is loaded once, so the call terminates for every image. A name that isn't found is

@@ -52,7 +52,7 @@ module _ (asked : Resolve) (before after : FolderState) (old new : DeviceStates)
     by_read (Ok image) answer reads answers ends =
         let tree = subst (λ (c : Option FolderContent). IfKnown c (λ c. image.tree ≡ c.now)) of_dir reads.tree.tree in
         let cache = subst (λ (c : Option DiskContent). IfKnown c (λ c. c.now.cache ≡ image.cache)) of_disk reads.cache.content in
-        by_image old new status asked held Debian dir.now right.entries right.listings none image answers.listed of_store tree (sym (ap cache_of cache) ∙ right.cache_is) answers.lists
+        by_image old new status asked held Debian dir.now right.entries right.listings none of_store image answers.listed tree (sym (ap cache_of cache) ∙ right.cache_is) answers.lists
         (as_listed answers.listed (subst EndsBy answers.answer_is ends))
     by_read (Err (reading.Tree (trees.Failed at))) answer reads answers ends = absurd (risen reads.tree.reads.failed.0)
     by_read (Err (reading.Tree trees.TooLarge)) answer reads answers ends =

@@ -10,5 +10,5 @@ use std::process::ExitCode;
 use table_rows::{status, try_tables};
 
 fn main(rt: HostRuntime) -> io::Result<ExitCode> {
-    Ok(status(try_tables::<Listed>(&rt, &["listings", "lists"])?))
+    Ok(status(try_tables::<Listed>(&rt, &["listings", "lists", "trees"])?))
 }

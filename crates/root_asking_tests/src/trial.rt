@@ -5,7 +5,7 @@ use image_rows::{
     CACHE, DISK_FAILS, FILES, LOADER, MANIFEST, STORE_FAILS, disk_of, env_of, is_made, slots_in,
     store_of, tree_of,
 };
-use lib_types::NoMemory;
+use lib_types::{NoMemory, Texts};
 use root_asking::resolve_root;
 use root_folder::MemFolder;
 use rpath_search::Env;
@@ -13,15 +13,19 @@ use std::alloc::Global;
 use table_rows::{Differences, Row, Trial, Words, calls, count, has_line, lines_in, value, values};
 use tree_face::{MemDisk, MemSink};
 
-/// A row has the tree of a directory as a manifest, the store's files, the cache, the loader's environment, the paths of the programs,
+/// A row has the tree of a directory as a manifest, the store's files, the cache, the loader's environment, the paths of the programs (or
+/// that all are listed),
 /// the form of the answer, and the calls that fail. It has the exit status, the output, the keys of the files that are opened, and the files that are read from the
 /// disk.
 pub(crate) struct Listed;
 
-// The form that the row asks for: JSON, a list whose paths end with NUL or a newline, or listings.
+// The form that the row asks for: JSON, trees, a list whose paths end with NUL or a newline, or listings.
 fn form_of(row: Row<'_>) -> Form {
     if has_line(row, b"json") {
         return Form::Json;
+    }
+    if has_line(row, b"tree") {
+        return Form::Tree;
     }
     match value(row, b"list") {
         Some(b"NUL") => Form::Files { end: 0 },
@@ -30,8 +34,16 @@ fn form_of(row: Row<'_>) -> Form {
     }
 }
 
+// The programs that the row names, or all.
+fn paths_of(alloc: Global, row: Row<'_>) -> Result<Option<Texts>, NoMemory> {
+    if has_line(row, b"all") {
+        return Ok(None);
+    }
+    Ok(Some(values(alloc, row, b"main-program")?))
+}
+
 fn asked_of(alloc: Global, row: Row<'_>) -> Result<Resolve, NoMemory> {
-    let paths = values(alloc, row, b"main-program")?;
+    let paths = paths_of(alloc, row)?;
     let Env {
         caps,
         library_path,
@@ -112,8 +124,10 @@ const WORDS: &[Words] = &[
         b"folder-fails",
         b"out-fails",
         b"main-program",
+        b"all",
         b"list",
         b"json",
+        b"tree",
         b"status",
         b"output",
         b"keys",

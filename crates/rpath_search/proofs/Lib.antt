@@ -4,4 +4,5 @@ pub mod Libraries
 mod Listed
 mod Loading
 mod Once
+mod InParts
 mod Tried

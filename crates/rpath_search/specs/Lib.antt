@@ -2,6 +2,7 @@ pub mod Candidates
 pub mod Faults
 pub mod Listed
 pub mod Loaders
+pub mod Parts
 pub mod Places
 pub mod Search
 pub mod Searching

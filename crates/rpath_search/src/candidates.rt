@@ -13,9 +13,9 @@ use lib_types::{NoMemory, Text, has_byte};
 use std::alloc::Global;
 use tree_face::is_below;
 
-// The remaining directories before the cache: `list`, the DT_RPATH directories of the object `above` and its loaders, and two more lists.
+/// The remaining directories before the cache: `list`, the DT_RPATH directories of the object `above` and its loaders, and two more lists.
 #[derive(Clone, Copy)]
-struct FirstDirs<'a> {
+pub(crate) struct FirstDirs<'a> {
     list: &'a [Text],
     above: Option<usize>,
     loaders: &'a Loaders,
@@ -24,14 +24,38 @@ struct FirstDirs<'a> {
 }
 
 impl<'a> FirstDirs<'a> {
-    // No directories.
-    fn none(loaders: &'a Loaders) -> FirstDirs<'a>
+    /// No directories.
+    pub(crate) fn none(loaders: &'a Loaders) -> FirstDirs<'a>
         ensures left { dirs_left result ≡ [] }
         ensures inside { IsInside result }
     {
+        FirstDirs::of_list(loaders, &[])
+    }
+
+    /// The directories of a list.
+    pub(crate) fn of_list(loaders: &'a Loaders, list: &'a [Text]) -> FirstDirs<'a>
+        ensures left { dirs_left result ≡ list.entry.now }
+        ensures inside { IsInside result }
+    {
         FirstDirs {
-            list: &[],
+            list,
             above: None,
+            loaders,
+            second: &[],
+            third: &[],
+        }
+    }
+
+    /// The directories of DT_RPATH of an object and of its loaders, whether or not the object has DT_RUNPATH.
+    pub(crate) fn of_rpaths(loaders: &'a Loaders, number: usize) -> FirstDirs<'a>
+        requires { number < length loaders.now }
+        ensures left { dirs_left result ≡ (reach_at loaders.now number).rpaths }
+        ensures inside { IsInside result }
+    {
+        let link = loaders.link(number);
+        FirstDirs {
+            list: link.dirs.rpath.as_slice(),
+            above: link.above,
             loaders,
             second: &[],
             third: &[],
@@ -90,8 +114,8 @@ impl<'a> FirstDirs<'a> {
     }
 }
 
-// The next directory, and the directories after it.
-fn split_first<'a>(dirs: FirstDirs<'a>) -> Option<(&'a Text, FirstDirs<'a>)>
+/// The next directory, and the directories after it.
+pub(crate) fn split_first<'a>(dirs: FirstDirs<'a>) -> Option<(&'a Text, FirstDirs<'a>)>
     requires { IsInside dirs }
     ensures { MatchOption result (dirs_left dirs.entry ≡ []) (λ r. (dirs_left dirs.entry ≡ r.0.now ∷ dirs_left r.1) × IsInside r.1) }
 {
@@ -151,15 +175,19 @@ impl DefaultDirs {
     }
 }
 
-// A directory, and the hwcaps names whose subdirectories remain.
+/// A directory, and the hwcaps names whose subdirectories remain.
 #[derive(Clone, Copy)]
-struct At<'a> {
-    dir: &'a [u8],
-    caps: &'a [Text],
+pub(crate) struct At<'a> {
+    pub dir: &'a [u8],
+    pub caps: &'a [Text],
 }
 
-// The next path of a name in the directory, and the remaining subdirectories.
-fn next_at<'a>(alloc: Global, name: &[u8], at: At<'a>) -> Result<(Text, Option<At<'a>>), NoMemory>
+/// The next path of a name in the directory, and the remaining subdirectories.
+pub(crate) fn next_at<'a>(
+    alloc: Global,
+    name: &[u8],
+    at: At<'a>,
+) -> Result<(Text, Option<At<'a>>), NoMemory>
     ensures { IfOk result (λ r. paths_at name.now (Some at.entry) ≡ r.0 ∷ paths_at name.now r.1) }
 {
     match at.caps.split_first() {
@@ -185,8 +213,8 @@ fn is_default(path: &[u8]) -> bool
     false
 }
 
-// The path of the cache, if the search tries it.
-fn tried<'a>(cached: Option<&'a [u8]>, nodeflib: bool) -> Option<&'a [u8]>
+/// The path of the cache, if the search tries it.
+pub(crate) fn tried<'a>(cached: Option<&'a [u8]>, nodeflib: bool) -> Option<&'a [u8]>
     ensures { option_copied result ≡ option_and_then (cached_path nodeflib) (option_copied cached.entry) }
 {
     let path = cached?;

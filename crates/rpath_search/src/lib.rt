@@ -7,6 +7,7 @@ mod fault;
 mod kinds;
 mod listing;
 mod loaders;
+mod parts;
 mod paths;
 mod search;
 
@@ -15,5 +16,6 @@ pub use fault::SearchFault;
 pub use kinds::{Chain, Env, Found, Owner, SystemDirs};
 pub use listing::places;
 pub use loaders::Loaders;
+pub use parts::{Part, Wanted, part_of};
 pub use paths::{folder_of, from_root};
 pub use search::{Answer, LoadedFiles, find, is_library, key_at, library_at, search_paths};

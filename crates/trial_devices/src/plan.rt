@@ -83,6 +83,9 @@ pub struct Plan {
     is_due: Cell<bool>,
     // The number of calls that pass before the one that fails. None if no call fails.
     left: Cell<Option<u64>>,
+    // The number of the error of the call that fails, and whether all calls after it fail, too.
+    code: Cell<i32>,
+    is_lasting: Cell<bool>,
     failed: Cell<Option<SystemCall>>,
     // The number of lines on the error output.
     lines: Cell<u64>,
@@ -94,6 +97,9 @@ pub struct Plan {
 // EIO, which no device handles in a special way.
 const IO_ERROR: i32 = 5;
 
+// Room for one entry of a directory with a name of 255 bytes, as getdents64 writes it.
+const ENTRY_ROOM: usize = 280;
+
 impl Plan {
     /// A plan by which all calls succeed.
     pub fn new() -> Plan {
@@ -101,6 +107,8 @@ impl Plan {
             manner: Cell::new(Manner::WHOLE),
             is_due: Cell::new(false),
             left: Cell::new(None),
+            code: Cell::new(IO_ERROR),
+            is_lasting: Cell::new(false),
             failed: Cell::new(None),
             lines: Cell::new(0),
             flushes: Cell::new(Flushes::NONE),
@@ -115,8 +123,21 @@ impl Plan {
 
     /// The call after this number of further calls fails, with EIO. The others succeed.
     pub fn fail_after(&self, calls: u64) {
+        self.fail_with(calls, IO_ERROR);
+    }
+
+    /// The call after this number of further calls fails, with the error of this number (errno(3)). The others succeed.
+    pub fn fail_with(&self, calls: u64, code: i32) {
+        self.code.set(code);
+        self.is_lasting.set(false);
         self.left.set(Some(calls));
         self.failed.set(None);
+    }
+
+    /// After this number of further calls, each call fails, with EIO.
+    pub fn fail_from(&self, calls: u64) {
+        self.fail_with(calls, IO_ERROR);
+        self.is_lasting.set(true);
     }
 
     /// No further call fails. Returns the kind of the call that failed, if it was made.
@@ -159,15 +180,36 @@ impl Plan {
         match self.left.get() {
             None => Ok(()),
             Some(0) => {
-                self.left.set(None);
-                self.failed.set(Some(call));
-                Err(Error::from_raw_os_error(IO_ERROR))
+                self.note_failed(call);
+                Err(Error::from_raw_os_error(self.code.get()))
             }
             Some(left) => {
                 self.left.set(Some(left - 1));
                 Ok(())
             }
         }
+    }
+
+    // Counts a call that fails. The first one is kept.
+    fn note_failed(&self, call: SystemCall) {
+        if !self.is_lasting.get() {
+            self.left.set(None);
+        }
+        if self.failed.get().is_none() {
+            self.failed.set(Some(call));
+        }
+    }
+
+    /// Counts a call that reads a directory into a buffer of `room` bytes, and returns how many of them it may use. A short call has room
+    /// for one long name.
+    pub fn pass_listing(&self, room: usize) -> io::Result<usize>
+        ensures { IfOk result (λ n. n ≤ room) }
+    {
+        self.pass(SystemCall::Read)?;
+        if self.manner.get().is_short {
+            return Ok(room.min(ENTRY_ROOM));
+        }
+        Ok(room)
     }
 
     /// Counts a call that moves up to `room` bytes, and returns how many it may move.

@@ -1,4 +1,5 @@
 //! The runtime of a trial.
+use crate::exchange::Exchanges;
 use crate::file::{TrialDir, TrialFile};
 use crate::plan::{Plan, SystemCall};
 use crate::reader::{Opened, TrialReader};
@@ -27,18 +28,38 @@ const OUTPUT_LINK: &str = "/proc/self/fd/1";
 pub struct Trial {
     rt: HostRuntime,
     plan: Rc<Plan>,
+    exchanges: Rc<Exchanges>,
 }
 
 impl Trial {
     /// The system, with a plan by which all calls succeed.
     pub fn new(rt: HostRuntime) -> Result<Trial, AllocError> {
         let plan = Rc::new(rt.alloc(), Plan::new())?;
-        Ok(Trial { rt, plan })
+        let exchanges = Rc::new(rt.alloc(), Exchanges::new())?;
+        Ok(Trial {
+            rt,
+            plan,
+            exchanges,
+        })
     }
 
     /// The plan of this runtime and its copies.
     pub fn plan(&self) -> &Plan {
         &self.plan
+    }
+
+    /// The directories that are replaced while this runtime and its copies work.
+    pub fn exchanges(&self) -> &Exchanges {
+        &self.exchanges
+    }
+
+    // Counts a call by a path. If a directory is to be replaced before it, this is done now.
+    fn pass(&self, call: SystemCall) -> io::Result<()> {
+        if let Some(exchange) = self.exchanges.pass() {
+            self.rt.rename(exchange.dir, exchange.aside)?;
+            self.rt.symlink(exchange.target, exchange.dir)?;
+        }
+        self.plan.pass(call)
     }
 
     // The plan for what is opened.
@@ -153,67 +174,67 @@ impl Files for Trial {
     type Dir = TrialDir;
 
     fn open_file(&self, how: &OpenOptions, path: &str) -> io::Result<TrialFile> {
-        self.plan.pass(SystemCall::Open)?;
+        self.pass(SystemCall::Open)?;
         Ok(TrialFile::new(self.rt.open_file(how, path)?, self.share()?))
     }
 
     fn open_dir(&self, path: &str) -> io::Result<TrialDir> {
-        self.plan.pass(SystemCall::Open)?;
+        self.pass(SystemCall::Open)?;
         Ok(TrialDir::new(self.rt.open_dir(path)?, self.share()?))
     }
 
     fn metadata(&self, path: &str) -> io::Result<Metadata> {
-        self.plan.pass(SystemCall::Look)?;
+        self.pass(SystemCall::Look)?;
         self.rt.metadata(path)
     }
 
     fn symlink_metadata(&self, path: &str) -> io::Result<Metadata> {
-        self.plan.pass(SystemCall::Look)?;
+        self.pass(SystemCall::Look)?;
         self.rt.symlink_metadata(path)
     }
 
     fn copy(&self, from: &str, to: &str) -> io::Result<u64> {
-        self.plan.pass(SystemCall::Write)?;
+        self.pass(SystemCall::Write)?;
         self.rt.copy(from, to)
     }
 
     fn rename(&self, from: &str, to: &str) -> io::Result<()> {
-        self.plan.pass(SystemCall::Rename)?;
+        self.pass(SystemCall::Rename)?;
         self.rt.rename(from, to)
     }
 
     fn remove_file(&self, path: &str) -> io::Result<()> {
-        self.plan.pass(SystemCall::Remove)?;
+        self.pass(SystemCall::Remove)?;
         self.rt.remove_file(path)
     }
 
     fn create_dir(&self, path: &str) -> io::Result<()> {
-        self.plan.pass(SystemCall::Make)?;
+        self.pass(SystemCall::Make)?;
         self.rt.create_dir(path)
     }
 
     fn create_dir_with_mode(&self, path: &str, mode: u32) -> io::Result<()> {
-        self.plan.pass(SystemCall::Make)?;
+        self.pass(SystemCall::Make)?;
         self.rt.create_dir_with_mode(path, mode)
     }
 
     fn remove_dir(&self, path: &str) -> io::Result<()> {
-        self.plan.pass(SystemCall::Remove)?;
+        self.pass(SystemCall::Remove)?;
         self.rt.remove_dir(path)
     }
 
     fn remove_dir_all<B: Allocator>(&self, alloc: B, path: &str) -> io::Result<()> {
-        self.plan.pass(SystemCall::Remove)?;
+        self.pass(SystemCall::Remove)?;
         self.rt.remove_dir_all(alloc, path)
     }
 
     fn canonicalize<B: Allocator>(&self, alloc: B, path: &str) -> io::Result<PathBuf<B>> {
-        self.plan.pass(SystemCall::Look)?;
+        self.pass(SystemCall::Look)?;
         self.rt.canonicalize(alloc, path)
     }
 
     fn read_link<B: Allocator>(&self, alloc: B, path: &str) -> io::Result<PathBuf<B>> {
-        self.plan.pass(SystemCall::Look)?;
+        self.pass(SystemCall::Look)?;
         if path == OUTPUT_LINK && self.plan.is_terminal() {
             return Ok(PathBuf::from_str(alloc, "/dev/pts/0")?);
         }
@@ -221,12 +242,12 @@ impl Files for Trial {
     }
 
     fn symlink(&self, original: &str, link: &str) -> io::Result<()> {
-        self.plan.pass(SystemCall::Make)?;
+        self.pass(SystemCall::Make)?;
         self.rt.symlink(original, link)
     }
 
     fn set_permissions(&self, path: &str, perm: Permissions) -> io::Result<()> {
-        self.plan.pass(SystemCall::Change)?;
+        self.pass(SystemCall::Change)?;
         self.rt.set_permissions(path, perm)
     }
 }

@@ -25,7 +25,7 @@ returns-in_err-answer_names-clause-answers g c =
     let same : c.from_residual.result ≡ Err fault = search rules in
     let st = g.S.Store.state c.args.store.now in
     rw same (object_fails st.held c.args.given.now c.loop-needed.number c.args.loading.now s1 s2 st (g.S.Store.state c.loop-needed.store) (g.S.Store.state c.answer_names.new.store)
-    c.loop-needed.invariant.answers c.in-Some.needed queue refl refl refl refl refl refl refl c.answer_names.new.loading c.answer_names.new.loading fault
+    c.loop-needed.invariant.answers c.in-Some.needed queue refl refl refl refl refl refl refl refl c.answer_names.new.loading c.answer_names.new.loading fault
     (rw (failed, c.loop-needed.invariant.held) at c.answer_names.ensures.answers))
 
 pub overflow_add-number : goal.overflow_add-number
@@ -58,7 +58,7 @@ loop-needed-preserved g c =
       sound = rw c.loop-needed.invariant.held at c.in_ok-answer_names.ensures.sound;
       even = even_then s1 s2 n c.in-Some.needed c.loop-needed.invariant.even queue c.answer_names.new.loading refl refl c.in_ok-answer_names.ensures.grows;
       answers = object_then st.held c.args.given.now n c.args.loading.now s1 s2 st (g.S.Store.state c.loop-needed.store) (g.S.Store.state c.answer_names.new.store)
-          c.loop-needed.invariant.answers c.in-Some.needed queue refl refl refl refl refl refl refl (n + 1) c.answer_names.new.loading next
+          c.loop-needed.invariant.answers c.in-Some.needed queue refl refl refl refl refl refl refl refl (n + 1) c.answer_names.new.loading next
           (rw (c.in_ok-answer_names.was, c.loop-needed.invariant.held) at c.answer_names.ensures.answers);
     }
 
@@ -68,4 +68,4 @@ returns-clause-answers g c =
     let s1 = c.loop-needed.loading in
     let s2 : Loading = record s1 { pending = c.pop_front.new.self } in
     let none : s1.pending.items ≡ [] = search rules in
-    all_answered st.held c.args.given.now c.loop-needed.number c.args.loading.now s1 s2 st (g.S.Store.state c.loop-needed.store) c.loop-needed.invariant.answers none refl refl refl
+    all_answered st.held c.args.given.now c.loop-needed.number c.args.loading.now s1 s2 st (g.S.Store.state c.loop-needed.store) c.loop-needed.invariant.answers none refl refl refl refl

@@ -18,5 +18,6 @@ returns c =
       places = refl;
       missing = refl;
       items = refl;
+      replies = refl;
       pending = refl;
     }) c.add_name_at.ensures

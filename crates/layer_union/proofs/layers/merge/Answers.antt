@@ -1,7 +1,7 @@
 use Rattle.std.proofs.Common.{subst, sym}
 use Rattle.image_tree.specs.Tree.{Nodes}
 use Rattle.layer_union.proofs.Layering.{is_free}
-use Rattle.layer_union.proofs.layers.add_layer.Goals as goal
+use Rattle.layer_union.proofs.layers.merge.Goals as goal
 use Rattle.layer_union.specs.Steps.{IsFree}
 
 pub put_all-requires : goal.put_all-requires
